@@ -8,7 +8,8 @@ Of each crate (all without a word) it tries the edits in more-edits/CRATE; with 
 of the gate stand in must-fail/, and scripts/must-fail.py tries them.
 Edits that turn functions of their own go into one check together. An open goal at a line of an edited function comes from that
 function's own edit, since what is proved of a function stands on the contracts of those that it calls, and no edit changes a
-contract. An edit that shows no such goal, since only a proof file reports an error, is tried alone; with --alone all are.
+contract; and so does an error in that function's own answers (proofs/MODULE/../FUNCTION/), by which no other goes. An edit that
+shows neither is tried alone; with --alone all are.
 
 It works on a copy of the repository, with the libraries that were built here (rt lib in each crate below).
 The last line is 'N refused, M not'.
@@ -26,8 +27,9 @@ import sys
 import tempfile
 
 import kit
-from edits import function_at, turned_functions
-from libraries import linked
+from edits import function_at, name_of, turned_functions
+from graph import below
+from libraries import crates_of_file, linked
 
 rt = kit.load()
 ROOT = os.path.dirname(os.path.dirname(os.path.abspath(__file__)))
@@ -76,6 +78,16 @@ class Copy:
             found |= {(file, None if at is None else old[at]) for at in turned_functions(old, text.split("\n"))}
         return found
 
+    def answers(self, edit):
+        """The folders of the answers of the functions that an edit turns."""
+        found = set()
+        for file, text in self.texts(edit).items():
+            old = self.lines(file)
+            for at in turned_functions(old, text.split("\n")) - {None}:
+                if file.startswith("src/"):
+                    found.add(f"proofs/{name_of(self.folder, file, at).replace('::', '/')}/")
+        return found
+
     def check(self):
         """The exit status and the lines of a check."""
         how = {"cwd": self.folder, "stdin": subprocess.DEVNULL, "stdout": subprocess.PIPE, "stderr": subprocess.STDOUT, "text": True, "errors": "replace"}
@@ -119,6 +131,15 @@ def own_goal(copy, turned, told):
     return None
 
 
+def own_answer(folders, told):
+    """The first error in the answers of a function that was turned."""
+    for line in told:
+        at = PLACE.match(line)
+        if at and at[3].startswith("error") and at[1].startswith(tuple(folders)):
+            return at[3][:110]
+    return None
+
+
 def is_refused(told):
     return any(line.startswith("logic=not-proved") for line in told)
 
@@ -148,9 +169,11 @@ def applied(copy, edit):
 def tried_together(copy, group):
     """For each edit of a group, the open goal of its own, if one is seen."""
     turned = [copy.turned(edit) for edit in group]
+    answers = [copy.answers(edit) for edit in group]
     stand = [applied(copy, edit) for edit in group]
     status, told = copy.check()
-    goals = [own_goal(copy, it, told) if stands and status and is_refused(told) else None for it, stands in zip(turned, stand)]
+    seen = [own_goal(copy, it, told) or own_answer(folders, told) for it, folders in zip(turned, answers)]
+    goals = [goal if stands and status and is_refused(told) else None for goal, stands in zip(seen, stand)]
     copy.restore()
     return zip(group, goals)
 
@@ -172,13 +195,13 @@ def crates_with_edits():
     return sorted(crate for crate in os.listdir(f"{ROOT}/more-edits") if os.path.isdir(f"{ROOT}/more-edits/{crate}"))
 
 
-def line_of(crate):
-    """The line of a crate in TRIED, were all its edits tried now."""
-    folders = [f"{ROOT}/crates/{crate}/{part}" for part in ("src", "specs", "proofs")] + [f"{ROOT}/more-edits/{crate}"]
+def line_of(top, crate):
+    """The line of a crate in TRIED, were all its edits tried on the files that stand in a copy, or in the repository itself."""
+    folders = [f"{top}/crates/{crate}/{part}" for part in ("src", "specs", "proofs")] + [f"{top}/more-edits/{crate}"]
     digest = hashlib.sha256()
     for path in sorted(os.path.join(place, name) for folder in folders for place, _, names in os.walk(folder) for name in names):
         with open(path, "rb") as it:
-            digest.update(f"{os.path.relpath(path, ROOT)} {hashlib.sha256(it.read()).hexdigest()}\n".encode())
+            digest.update(f"{os.path.relpath(path, top)} {hashlib.sha256(it.read()).hexdigest()}\n".encode())
     return f"{crate} {len(edits_of(crate))} {digest.hexdigest()[:16]}"
 
 
@@ -190,8 +213,8 @@ def lines_of_tried():
         return {line.split()[0]: line.rstrip("\n") for line in it}
 
 
-def note_tried(crate):
-    lines = lines_of_tried() | {crate: line_of(crate)}
+def note_tried(crate, line):
+    lines = lines_of_tried() | {crate: line}
     with open(TRIED, "w", encoding="utf-8") as it:
         it.writelines(f"{lines[name]}\n" for name in sorted(lines))
 
@@ -201,18 +224,19 @@ def tell_stale():
     for crate in crates_with_edits():
         if crate not in lines:
             print(f"{crate}: not tried")
-        elif lines[crate] != line_of(crate):
+        elif lines[crate] != line_of(ROOT, crate):
             print(f"{crate}: changed since")
     return 0
 
 
 def copied(top, crates):
-    """Copies the repository, with its built libraries, and what was proved of the crates whose edits are tried."""
+    """Copies the repository, with the libraries below the crates whose edits are tried, and what was proved of these."""
     files = subprocess.run(["git", "ls-files", "-z"], cwd=ROOT, capture_output=True, check=True).stdout
     for name in filter(None, files.decode().split("\0")):
         os.makedirs(os.path.dirname(f"{top}/{name}"), exist_ok=True)
         shutil.copy2(f"{ROOT}/{name}", f"{top}/{name}")
-    kept = [(f"{crate}/out/rlib", linked) for crate in os.listdir(f"{ROOT}/crates")]
+    stand = crates_of_file()
+    kept = [(f"{lower}/out/rlib", linked) for lower in sorted(set().union(*(below(stand, crate) for crate in crates)))]
     kept += [(f"{crate}/out/incremental", shutil.copy2) for crate in crates]
     for folder, copies in kept:
         if os.path.isdir(f"{ROOT}/crates/{folder}"):
@@ -223,12 +247,13 @@ def copied(top, crates):
 def tries_crate(top, crate, names, given):
     """How many edits of a crate were refused, and how many weren't: of all, or of those whose names begin so."""
     refused = failed = 0
+    line = line_of(top, crate)
     edits = [edit for edit in edits_of(crate) if not names or os.path.basename(edit).startswith(tuple(names))]
     for edit, is_well, why in tried(Copy(top, crate), edits, given.alone):
         refused, failed = refused + is_well, failed + (not is_well)
         print(f"{'refused' if is_well else 'NOT REFUSED'} {label(edit)}: {why}", flush=True)
     if not failed and not names:
-        note_tried(crate)
+        note_tried(crate, line)
     return refused, failed
 
 

@@ -1,6 +1,9 @@
 -- What a backup of entries may put, and how it may end, from what it knows of its trace.
-use Rattle.std.proofs.Common.{◌≡◌, ◌++◌, [], ℕ, true, List, None, refl, sym, ap, subst, inl, inr, ◌⊎◌, ◌∙◌, Contains}
+use Rattle.std.proofs.Common.{◌≡◌, ◌<◌, ◌++◌, [], ℕ, true, List, length, None, refl, sym, ap, subst, inl, inr, ◌⊎◌, ◌∙◌, Contains}
+use Rattle.std.proofs.lemmas.List.Elements.{Contains-append_left}
+use Rattle.repo_index.specs.IndexText.{facts_in}
 use Rattle.repo_index.specs.declared.facts.Fact.{Fact}
+use Rattle.repo_name.specs.Limits.{facts_limit}
 use Rattle.repo_pack.specs.PackLayout.{Item, IsTruePack}
 use Rattle.repo_session.specs.Feeds.{Fed}
 use Rattle.repo_session.specs.Traces.{Each, Trace}
@@ -17,11 +20,13 @@ use Rattle.repo_backup.specs.Packings.{IsCovered}
 use Rattle.repo_backup.specs.PieceRules.{IsStandingOf}
 use Rattle.repo_backup.specs.PieceStates.{StandsAt}
 use Rattle.repo_backup.specs.Plans.{fed_on, LeadThrough}
-use Rattle.repo_backup.specs.Rules.{IsMade, AreLast, PackRule}
+use Rattle.repo_backup.specs.Rules.{IsMade, IsInOrder, AreLast, PackRule}
 use Rattle.repo_backup.specs.Standings.{Standing, LeadTo, made_at}
 use Rattle.repo_backup.specs.declared.piece_backing.PieceBacking.{PieceBacking}
 use Rattle.repo_backup.proofs.Closing.{some_here}
+use Rattle.repo_backup.proofs.Dues.{index_undue}
 use Rattle.repo_backup.proofs.Leading.{made_later, over_last}
+use Rattle.repo_backup.proofs.Orders.{order_later, sealed_order}
 use Rattle.repo_backup.proofs.PieceRuling.{made_whole, sealed_made, sealed_once, sealed_unread, sealed_unput, over_is, whole_covered}
 use Rattle.repo_backup.proofs.StepFeeding.{fed_after}
 use Rattle.repo_backup.proofs.Written.{known_given}
@@ -32,14 +37,18 @@ made_so {folder = folder} same m = (record { text = m.text; config = m.config; r
 
 -- what was made of some first items is made of the entries
 pub made_through : (entries : List Entry) (left : List Fed) (items : Feeding) (es : Trace) (config : Config) (st : Standing) → LeadThrough entries left items → IsStandingOf items es config st
-    → (folder : Folder) × (m : IsMade entries es folder) × (m.config ≡ config) × ((x : Item) → Contains (made_at config.version st) x → Contains (blobs_of config.version folder) x)
+    → (folder : Folder) × (m : IsMade entries es folder) × (m.config ≡ config) × (later : List Item) × (blobs_of config.version folder ≡ made_at config.version st ++ later)
 made_through entries left items es config st leads at =
     let all = fed_on left items in
     let f = fed_after left items in
     let k = made_later config.params at.has.reads.allowed.0 config.version f.0 items st (subst AreTaken f.1 leads.taken) at.lead in
     let m = made_whole all es config k.0 (record { has = at.has; lead = subst (λ l. LeadTo config.params l k.0) (sym f.1) k.1 }) leads.taken leads.ends in
     let t = made_so leads.spells m.0 in
-    (k.0.done, t.0, t.1 ∙ m.1, λ x c. subst (λ l. Contains l x) m.2 (k.2 x c))
+    (k.0.done, t.0, t.1 ∙ m.1, k.2, sym m.2 ∙ k.3)
+
+-- what begins some blobs is among them
+pub among_blobs : (made later whole : List Item) → whole ≡ made ++ later → (x : Item) → Contains made x → Contains whole x
+among_blobs made later whole is x among = subst (λ l. Contains l x) (sym is) (Contains-append_left made later x among)
 
 -- items that ended spell them
 pub ended_spell : (entries : List Entry) (left : List Fed) (items : Feeding) → LeadThrough entries left items → (place_of items).over ≡ true → spelled_by items ≡ entries
@@ -71,17 +80,19 @@ module _ (entries : List Entry) (left : List Fed) (facts : List Fact) (b : Piece
       }
 
   -- the sealed pack may be put
-  pub backup_pack : (x : List ℕ) → IsTruePack x sealed → IsPromptPack es sealed → IsFullPack es sealed ⊎ (((place_of items).over ≡ true) × (b.work.parts ≡ None)) → PackRule entries es x
-  backup_pack x pack prompt full =
+  pub backup_pack : b.listed ≡ None → length (facts_in b.waiting) < facts_limit → (x : List ℕ) → IsTruePack x sealed → IsPromptPack es sealed → IsFullPack es sealed ⊎ (((place_of items).over ≡ true) × (b.work.parts ≡ None)) → PackRule entries es x
+  backup_pack unlisted few x pack prompt full =
       let t = made_through entries left items es h.config h.st leads h.at in
       record {
         indexes = h.written.indexed;
         first = h.written.none;
+        unlisted = index_undue facts b puts es h.written unlisted few;
         items = sealed;
         pack = pack;
         folder = t.0;
         cut = t.1;
-        made = λ item among. subst (λ (c : Config). Contains (blobs_of c.version t.0) item) (sym t.2) (t.3 item (sealed_made facts b puts sealed items es h item among));
+        made = λ item among. subst (λ (c : Config). Contains (blobs_of c.version t.0) item) (sym t.2) (among_blobs (made_at h.config.version h.st) t.3 (blobs_of h.config.version t.0) t.4 item (sealed_made facts b puts sealed items es h item among));
+        order = subst (λ (c : Config). IsInOrder es (blobs_of c.version t.0) sealed) (sym t.2) (order_later es (made_at h.config.version h.st) t.3 (blobs_of h.config.version t.0) sealed t.4 (sealed_order facts b puts sealed items es h));
         once = sealed_once facts b puts sealed items es h;
         unread = sealed_unread facts b puts sealed items es h;
         unput = sealed_unput facts b puts sealed items es h;

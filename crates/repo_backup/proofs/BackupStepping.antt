@@ -19,7 +19,7 @@ use Rattle.repo_session.specs.declared.jobs.Step.{Step}
 use Rattle.repo_tree.specs.declared.entries.Entry.{Entry}
 use Rattle.repo_wire.specs.declared.messages.Ask.{Ask}
 use Rattle.repo_writing.specs.Putting.{PutsIndexOf}
-use Rattle.repo_writing.specs.Writing.{items_of, ListsEachPack}
+use Rattle.repo_writing.specs.Writing.{items_of}
 use Rattle.repo_backup.specs.Backing.{HasWritten}
 use Rattle.repo_backup.specs.BackupStates.{backup_task, IsUnderWay, GoesSo, IsSameWay, IsBegunAnew, BackupPuts, KnowsPut, IsDueNext, IsGoingOn}
 use Rattle.repo_backup.specs.Backups.{handed_to, left_in, Knows, WalksOn, BackupSends}
@@ -46,13 +46,14 @@ use Rattle.repo_backup.specs.declared.piece_works.Took.{Took}
 use Rattle.repo_backup.specs.declared.steps.Position.{Position}
 use Rattle.repo_backup.specs.declared.steps.WalkStep.{WalkStep}
 use Rattle.repo_backup.specs.declared.walks.Went.{Went}
-use Rattle.repo_backup.proofs.BackupRuling.{made_through, ended_spell, are_last}
+use Rattle.repo_backup.proofs.BackupRuling.{made_through, among_blobs, ended_spell, are_last}
 use Rattle.repo_backup.proofs.Closing.{none_there}
+use Rattle.repo_backup.proofs.Dues.{none_being_put}
 use Rattle.repo_backup.proofs.Forbidding.{faults_forbid}
 use Rattle.repo_backup.proofs.PieceFeeding.{large_at, stands_plain, stands_further, stands_unsealed, sealed_full, sealed_prompt, stands_still}
 use Rattle.repo_backup.proofs.Piecing.{plain}
 use Rattle.repo_backup.proofs.PieceRuling.{over_is, fed_snapshot}
-use Rattle.repo_backup.proofs.PieceStepping.{none_being_put, index_out, none_waits, large_ends}
+use Rattle.repo_backup.proofs.PieceStepping.{index_out, none_waits, large_ends}
 use Rattle.repo_backup.proofs.StepFeeding.{lead_further, item_may, going_open, next_no_abandon}
 
 -- ---- one item
@@ -62,7 +63,7 @@ large_so : (entries : List Entry) (left : List Fed) (items : Feeding) (es : Trac
     → blob_limit < length text → IsTooLarge config.version entries es
 large_so entries left items es config st leads at text made large =
     let t = made_through entries left items es config st leads at in
-    record { folder = t.0; cut = t.1; of_version = ap (λ (c : Config). c.version) t.2; text = text; made = subst (λ (c : Config). Contains (blobs_of c.version t.0) (item_of Tree text)) (sym t.2) (t.3 (item_of Tree text) made); large = large }
+    record { folder = t.0; cut = t.1; of_version = ap (λ (c : Config). c.version) t.2; text = text; made = subst (λ (c : Config). Contains (blobs_of c.version t.0) (item_of Tree text)) (sym t.2) (among_blobs (made_at config.version st) t.3 (blobs_of config.version t.0) t.4 (item_of Tree text) made); large = large }
 
 module _ (facts : List Fact) (steps : List WalkStep) (p : Position) (item : Item) (old new : PieceWork) (going : p.over ≡ false) (is : fed_of item ≡ next_fed p.within (slice_get steps p.at)) where
   no_abandon : item ≡ Item.Abandon → ⊥
@@ -211,9 +212,9 @@ module _ (j : Backup) (holding : Holding) (es : Trace) (working : IsWorking (bac
     index_sent token step own some why puts =
         let k = index_out j.catalog.lookup b token step items es h some puts in
         let x = k.0 in
-        let full : IsFullIndex x ⊎ (AreLast (handed_to j) es [] × ListsEachPack k.3.lists.packs es) = elim why [ inl many ↦ inl (b.waiting, k.1, many) | inr over ↦ inr (last_now over.1 over.0, k.4) ] in
+        let full : IsFullIndex x ⊎ AreLast (handed_to j) es [] = elim why [ inl many ↦ inl (b.waiting, k.1, many) | inr over ↦ inr (last_now over.1 over.0) ] in
         let T : Token → Type 0 = λ t. Does (Step.Ask (Ask.Put t Kind.Index (naming.name x) x)) in
-        let may : T holding.token = record { work = tt; may = (working, refl, k.2); allowed = (k.3, full); knows = inr (b, is, (items, leads, k.5)) } in
+        let may : T holding.token = record { work = tt; may = (working, refl, k.2); allowed = (k.3, k.4, full); knows = inr (b, is, (items, leads, k.5)) } in
         subst Does (sym k.6) (subst T (sym own) may)
 
     -- the snapshot is put

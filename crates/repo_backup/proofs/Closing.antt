@@ -1,5 +1,5 @@
 -- A work that is fed still stands after the end of a file or of a directory.
-use Rattle.std.proofs.Common.{arith, ◌≡◌, ◌≢◌, ◌≤◌, ◌++◌, ◌∷◌, [], ℕ, true, false, List, length, map, Option, Some, None, is_some, refl, sym, ap, subst, inl, inr, ◌⊎◌, ◌∙◌, append_assoc, length-append, Contains}
+use Rattle.std.proofs.Common.{arith, ◌≡◌, ◌≢◌, ◌≤◌, ◌++◌, ◌∷◌, [], ℕ, true, false, List, length, map, Option, Some, None, is_some, refl, sym, ap, subst, inl, inr, ◌⊎◌, ◌∙◌, append_assoc, append-nil, length-append, Contains}
 use Rattle.std.proofs.lemmas.List.{map-append, same_from_push}
 use Rattle.std.proofs.lemmas.List.Elements.{Contains-append_cases, Contains-append_left, Contains-append_right}
 use Rattle.repo_chunk.proofs.CutLaws.{uncut_is_short}
@@ -21,7 +21,7 @@ use Rattle.repo_backup.specs.Folders.{Folder, nothing, file_then, dir_then, join
 use Rattle.repo_backup.specs.Items.{after, MayTake}
 use Rattle.repo_backup.specs.Packings.{IsPacking, all_items}
 use Rattle.repo_backup.specs.Waiting.{PacksAll}
-use Rattle.repo_backup.specs.Pieces.{IsCoveredSoFar, waiting_in, IsFileAt, AreOuterAt, AreTextsAround, IsRootAt, IsAt, PieceStands, Goes, Stays}
+use Rattle.repo_backup.specs.Pieces.{IsCoveredSoFar, ArePackedSoFar, waiting_in, IsFileAt, AreOuterAt, AreTextsAround, IsRootAt, IsAt, PieceStands, Goes, Stays}
 use Rattle.repo_backup.specs.Plans.{AreTreeTextsBelow}
 use Rattle.repo_backup.specs.Standings.{both, Around, FileCut, Standing, path_of, file_at, place_at, IsCutSoFar, chunk_items, last_chunk, made_at}
 use Rattle.repo_backup.specs.declared.pieces.PieceFile.{PieceFile}
@@ -125,7 +125,9 @@ module _ (w v : PieceWork) (f : PieceFile) (node : Node) (names : List Name) (kn
         | inr left ↦ inr (subst (λ l. Contains l x) (sym both_are) (Contains-append_right ended last x left))
       ] in
       let waits : (x : Item) → Contains (waiting_in w.walk.file) x → Contains items x = λ x waiting. subst (λ l. Contains l x) (sym both_are) (Contains-append_left ended last x (subst (λ y. Contains (waiting_in y) x) is waiting)) in
-      let m = stands_many w v known old k.now sent items Sealing.Due packs version kept among split waits k.at (subst (λ q. IsCutSoFar q k.now) (sym params) k.cut) k.texts k.was in
+      let front : (first : List Item) → was ≡ first ++ waiting_in w.walk.file → made_at V k.now ≡ (first ++ items) ++ waiting_in v.walk.file = λ first e.
+      made ∙ ap (λ l. l ++ last) (e ∙ ap (λ o. first ++ waiting_in o) is) ∙ append_assoc first ended last ∙ ap (λ l. first ++ l) (sym both_are) ∙ sym (append-nil (first ++ items)) ∙ ap (λ o. (first ++ items) ++ waiting_in o) (sym none) in
+      let m = stands_many w v known old k.now sent items Sealing.Due packs version kept among split waits front k.at (subst (λ q. IsCutSoFar q k.now) (sym params) k.cut) k.texts k.was in
       (k.may, k.now, m.0, k.place, inl (unlaid, m.1), inl m.2)
 
 -- ---- a chunk that isn't ended is short
@@ -158,6 +160,8 @@ room_stays w v known params version outers nodes file root packs written st sent
       at = make_at v.walk V st version (outers V st.above h.at.outers) (nodes ∙ h.at.nodes) same_file (ap is_some root ∙ h.at.over) (subst (λ x. IsRootAt V x st.done) (sym root) h.at.root);
       cut = subst (λ q. IsCutSoFar q st) (sym params) h.cut;
       texts = subst (λ n. AreTreeTextsBelow n st.done × AreTextsAround n st.above) (sym version) h.texts;
+      order = subst (λ n. ArePackedSoFar known (made_at n st) v.walk.file (all_items sent [] v.packing)) (sym version)
+          (subst (λ x. ArePackedSoFar known (made_at V st) x (all_items sent [] v.packing)) (sym file) (subst (λ l. ArePackedSoFar known (made_at V st) w.walk.file l) (sym all) h.order));
       covered = subst (λ n. Each (λ item. IsCoveredSoFar known (all_items sent [] v.packing) v.walk.file item) (made_at n st)) (sym version)
           (subst (λ x. Each (λ item. IsCoveredSoFar known (all_items sent [] v.packing) x item) (made_at V st)) (sym file) (subst (λ l. Each (λ item. IsCoveredSoFar known l w.walk.file item) (made_at V st)) (sym all) h.covered));
     }

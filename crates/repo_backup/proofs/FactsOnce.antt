@@ -1,28 +1,23 @@
--- Blobs that an index lists are each there once, no index put before gives them, and where it is the last one each pack is listed.
+-- Blobs that an index lists are each there once, and no index put before gives them.
 use Rattle.std.proofs.Common.{arith, zero, suc, ◌≡◌, ◌++◌, ◌∷◌, [], ℕ, List, length, map, slice_get, Some, refl, sym, ap, subst, inl, inr, ◌∙◌, Contains}
 use Rattle.std.specs.Prelude.{⊤}
 use Rattle.std.proofs.lemmas.List.Concat.{flat_map-append}
 use Rattle.std.proofs.lemmas.List.Elements.{Contains-append_right}
 use Rattle.std.proofs.lemmas.Option.{same_Some}
-use Rattle.repo_name.proofs.Containing.{none_contained, first_contained, later_contained, contained_or, contains_map, map_contains, flat_contains, contains_flat}
+use Rattle.repo_name.proofs.Containing.{none_contained, first_contained, later_contained, contained_or}
 use Rattle.repo_name.specs.declared.kinds.BlobKind.{BlobKind}
-use Rattle.repo_name.specs.declared.kinds.Kind.{Kind}
 use Rattle.repo_name.specs.declared.names.Name.{Name}
 use Rattle.repo_pack.specs.PackLayout.{Item}
-use Rattle.repo_index.proofs.OneLemmas.{index_texts_one}
 use Rattle.repo_index.specs.Exactness.{fact_at}
-use Rattle.repo_index.specs.IndexText.{facts_in, fact_of, IsIndexText}
+use Rattle.repo_index.specs.IndexText.{facts_in, fact_of}
 use Rattle.repo_index.specs.declared.facts.Fact.{Fact}
 use Rattle.repo_index.specs.declared.facts.PackFacts.{PackFacts}
-use Rattle.repo_wire.specs.declared.messages.Ask.{Ask}
-use Rattle.repo_wire.specs.declared.messages.Say.{Say}
-use Rattle.repo_session.proofs.Spoken.{was_asked}
-use Rattle.repo_session.specs.Traces.{Each, Object, Trace, objects_put}
-use Rattle.repo_writing.proofs.PutLemmas.{each_contained, asked_put}
+use Rattle.repo_session.specs.Traces.{Each, Trace}
 use Rattle.repo_writing.proofs.Writings.{listing_of, each_alone}
+use Rattle.repo_writing.proofs.Unlisted.{indexed_before}
 use Rattle.repo_writing.specs.Blobs.{HasItem, AreOnce, HasFact, AreFactsOnce}
 use Rattle.repo_writing.specs.Putting.{IsIndexed}
-use Rattle.repo_writing.specs.Writing.{Put, IsPut, items_of, ArePut, AreListed, Listing, packs_of, IsDone, ListsPack, ListsEachPack}
+use Rattle.repo_writing.specs.Writing.{Put, IsPut, items_of, ArePut, AreListed, packs_of}
 use Rattle.repo_writing.specs.declared.counts.Counts.{Counts}
 
 -- ---- facts of some items
@@ -94,20 +89,6 @@ facts_apart (x ∷ xs) ys k n once h g = elim (contained_or x xs (fact_of k n h.
 
 -- ---- what waits
 
--- what an index put before gives is among what those list
-indexed_before : (listed waiting : List PackFacts) (es : Trace) (h : AreListed listed waiting es) (k : BlobKind) (n : Name) → IsIndexed es k n → HasFact (facts_in (packs_of h.listings)) k n
-indexed_before listed waiting es h k n is =
-    let object : Object = record { name = is.index; bytes = is.text } in
-    let put = asked_put es is.put.0 Kind.Index is.index is.text (was_asked es (Ask.Put is.put.0 Kind.Index is.index is.text) Say.Done is.put.1) in
-    let found = map_contains (λ (l : Listing). l.index) h.listings object (subst (λ os. Contains os object) (sym h.indexes) put) in
-    let done : IsDone es found.0 = each_contained (IsDone es) h.listings found.0 h.read_back found.1 in
-    let reads : IsIndexText is.text found.0.packs = subst (λ (o : Object). IsIndexText o.bytes found.0.packs) found.2 done.reads in
-    let there : Contains (facts_in found.0.packs) is.fact = subst (λ ps. Contains (facts_in ps) is.fact) (index_texts_one is.text is.says.packs found.0.packs is.says.text reads) is.says.among in
-    let pack = flat_contains (λ (p : PackFacts). p.facts) found.0.packs is.fact there in
-    let among : Contains (packs_of h.listings) pack.0 = contains_flat (λ (l : Listing). l.packs) h.listings found.0 pack.0 found.1 pack.1 in
-    let all : Contains (facts_in (packs_of h.listings)) is.fact = contains_flat (λ (p : PackFacts). p.facts) (packs_of h.listings) pack.0 is.fact among pack.2 in
-    (is.fact.place, subst (λ fact. Contains (facts_in (packs_of h.listings)) fact) (λ i. record { kind = is.kind i; name = is.name i; place = is.fact.place }) all)
-
 module _ (counts : Counts) (puts : List Put) (waiting : List PackFacts) (es : Trace) (put : ArePut counts puts [] es) (listed : AreListed (map listing_of puts) waiting es) where
   before : List Fact
   before = facts_in (packs_of listed.listings)
@@ -125,13 +106,3 @@ module _ (counts : Counts) (puts : List Put) (waiting : List PackFacts) (es : Tr
   pub waits_unindexed : AreOnce (items_of puts) → (fact : Fact) → Contains (facts_in waiting) fact → ¬ IsIndexed es fact.kind fact.name
   unfolding before
   waits_unindexed once fact among is = facts_apart before (facts_in waiting) fact.kind fact.name (all_once once) (indexed_before (map listing_of puts) waiting es listed fact.kind fact.name is) (fact.place, among)
-
-  -- with what waits, the indexes put list each pack put
-  pub waits_last : ListsEachPack waiting es
-  waits_last = record { packs = map listing_of puts; listed = listed; stand = stand }
-    where
-      stand : (object : Object) → Contains (objects_put Kind.Pack es) object → ListsPack (map listing_of puts) object.name
-      stand object among =
-          let found = map_contains (λ (p : Put). p.pack) puts object (subst (λ os. Contains os object) (sym put.packs) among) in
-          let is : IsPut found.0 = each_contained IsPut puts found.0 (each_alone puts put.each) found.1 in
-          (found.0.listed, contains_map listing_of puts found.0 found.1, is.same ∙ ap (λ (o : Object). o.name) found.2)

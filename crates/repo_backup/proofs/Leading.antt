@@ -149,12 +149,12 @@ module _ (params : Parameters) (lawful : AreLawful params) (version : ℕ) where
 -- however many more
 module _ (params : Parameters) (lawful : AreLawful params) (version : ℕ) where
   pub made_later : (more items : Feeding) (st : Standing) → AreTaken (more ++ items) → LeadTo params items st
-      → (now : Standing) × LeadTo params (more ++ items) now × ((blob : Item) → Contains (made_at version st) blob → Contains (made_at version now) blob)
-  made_later [] items st taken lead = (st, lead, λ blob c. c)
+      → (now : Standing) × LeadTo params (more ++ items) now × (later : List Item) × (made_at version now ≡ made_at version st ++ later)
+  made_later [] items st taken lead = (st, lead, [], sym (append-nil (made_at version st)))
   made_later (item ∷ more) items st taken lead =
       let k = made_later more items st taken.3 lead in
       let n = leads_on params lawful version item (more ++ items) k.0 taken k.1 in
-      (n.now, record { place = n.place; cut = n.cut }, λ blob c. subst (λ l. Contains l blob) (sym n.made) (Contains-append_left (made_at version k.0) n.more blob (k.2 blob c)))
+      (n.now, record { place = n.place; cut = n.cut }, k.2 ++ n.more, n.made ∙ ap (λ l. l ++ n.more) k.3 ∙ append_assoc (made_at version st) k.2 n.more)
 
 -- nothing may be taken behind the end
 over_apart : (b : Bool) → b ≡ false → b ≡ true → ⊥
@@ -177,7 +177,9 @@ pub items_lead : ItemsLead
 items_lead params items lawful taken = lead_somewhere params lawful 1 items taken
 
 pub made_grows : MadeGrows
-made_grows params version more items st lawful taken lead = made_later params lawful version more items st taken lead
+made_grows params version more items st lawful taken lead =
+    let k = made_later params lawful version more items st taken lead in
+    (k.0, k.1, λ blob c. subst (λ l. Contains l blob) (sym k.3) (Contains-append_left (made_at version st) k.2 blob c))
 
 pub end_is_last : EndIsLast
 end_is_last more items taken over = over_last more items taken over

@@ -18,6 +18,8 @@ pub mod Forbidding
 pub mod SpelledExample
 pub mod FactsOnce
 pub mod Written
+pub mod Orders
+pub mod Dues
 pub mod NameOrder
 pub mod NamePlaces
 pub mod Piecing

@@ -20,9 +20,10 @@ use Rattle.repo_backup.specs.Items.{after, MayTake}
 use Rattle.repo_backup.specs.Packings.{IsPacking, IsCovered, IsSealedBy, PacksOn, AimsOn, all_items}
 use Rattle.repo_pack.specs.PackWriting.{IsOpen}
 use Rattle.repo_backup.specs.PartsMade.{parts_by, nodes_in, next_of, left_count, open_dir, closed_dir}
-use Rattle.repo_backup.specs.Pieces.{AreOuterAt, AreTextsAround, IsFileAt, IsRootAt, IsAt, PieceStands, PieceLays, WorkStands, IsReady, TakesItem, LeavesPacked, Reopens, reopened, LaysOn, LaysStill, IsStill, LeavesLater, EndsSteady, sealing_in, closing_in}
+use Rattle.repo_backup.specs.Pieces.{AreOuterAt, AreTextsAround, IsFileAt, IsRootAt, IsAt, waiting_in, PieceStands, PieceLays, WorkStands, IsReady, TakesItem, LeavesPacked, Reopens, reopened, LaysOn, LaysStill, IsStill, LeavesLater, EndsSteady, sealing_in, closing_in}
 use Rattle.repo_backup.specs.Plans.{AreTreeTextsBelow}
 use Rattle.repo_backup.specs.Standings.{Around, Standing, both, path_of, place_at, IsCutSoFar, made_below, made_at}
+use Rattle.repo_backup.specs.Waiting.{AllGainMore}
 use Rattle.repo_backup.specs.declared.packing.Packing.{Packing}
 use Rattle.repo_backup.specs.declared.packing.Sealing.{Sealing}
 use Rattle.repo_backup.specs.declared.parts.PartsLeft.{PartsLeft}
@@ -34,7 +35,8 @@ use Rattle.repo_backup.proofs.Leading.{made_open, next_close, next_end}
 use Rattle.repo_backup.proofs.Lengthening.{made_more, no_file}
 use Rattle.repo_backup.proofs.NamePlaces.{none_open}
 use Rattle.repo_backup.proofs.PartLists.{Lasts, Ranges, last_part, ranges, parts_whole, parts_some, texts_by, root_by, has_by, first_one, texts_more, items_more, item_among}
-use Rattle.repo_backup.proofs.Piecing.{all_of_made, covered_so_far, covered_whole, more_covered, make_at, none_sealed}
+use Rattle.repo_backup.proofs.Piecing.{all_of_made, covered_so_far, covered_whole, more_covered, make_at, none_sealed, none_waiting, packed_whole}
+use Rattle.repo_backup.proofs.Waits.{gain_one_more}
 use Rattle.repo_session.specs.Feeds.{Fed, fed_close, fed_end}
 
 -- ---- a directory that is closed
@@ -125,6 +127,7 @@ module _ (w : PieceWork) (known : List Fact) (st : Standing) (sent : List Item) 
     pub sealed : List Item
     pub packing : IsPacking q known sent sealed
     pub of_made : (item : Item) → Contains (all_items sent sealed q) item → Contains (made_at V st) item
+    pub order : AllGainMore known [] (made_at V (open_dir h.done h.above) ++ tree_items (part_texts now_made)) (all_items sent sealed q)
     pub covered : Each (λ item. IsCovered known (all_items sent sealed q) item) (made_at V (open_dir h.done h.above) ++ tree_items (part_texts now_made))
     pub by : IsSealedBy sealing w.packing.packer.writer.target sealed
 
@@ -142,6 +145,7 @@ module _ (w : PieceWork) (known : List Fact) (st : Standing) (sent : List Item) 
         sealed = k.0;
         packing = k.1;
         of_made = λ x among. all_of_made known was all item (made_at V st) x k.2 h.of_made among_all among;
+        order = subst (λ l. AllGainMore known [] l all) more (gain_one_more known [] was all before item h.order k.2);
         covered = subst (λ l. Each (λ x. IsCovered known all x) l) more (more_covered known was all item before k.2 h.covered);
         by = k.3;
       }
@@ -177,6 +181,7 @@ laid_later w v known st sent h p q is size popped nodes name some count range ne
         at = subst (λ x. IsAt x (open_dir h.done h.above)) (sym walk) h.at;
         cut = subst (λ x. IsCutSoFar x.params st) (sym walk) h.cut;
         texts = subst (λ x. AreTreeTextsBelow x.version h.done × AreTextsAround x.version h.above) (sym walk) h.texts;
+        order = subst (λ x. AllGainMore known [] (made_at x.version (open_dir h.done h.above) ++ tree_items (part_texts made)) (all_items sent m.sealed v.packing)) (sym walk) m.order;
         covered = subst (λ x. Each (λ item. IsCovered known (all_items sent m.sealed v.packing) item) (made_at x.version (open_dir h.done h.above) ++ tree_items (part_texts made))) (sym walk) m.covered;
       },
       m.by,
@@ -208,6 +213,8 @@ lays_still w v known p q is now sizes count next params version outers nodes fil
       at = make_at v.walk N there version (outers N h.above h.at.outers) (nodes ∙ h.at.nodes) same_file (ap is_some root ∙ h.at.over) (subst (λ x. IsRootAt N x h.done) (sym root) h.at.root);
       cut = subst (λ x. IsCutSoFar x st) (sym params) h.cut;
       texts = subst (λ n. AreTreeTextsBelow n h.done × AreTextsAround n h.above) (sym version) h.texts;
+      order = subst (λ n. AllGainMore known [] (made_at n there ++ tree_items (part_texts h.made)) (all_items sent [] v.packing)) (sym version)
+          (subst (λ l. AllGainMore known [] (made_at N there ++ tree_items (part_texts h.made)) l) (sym all) h.order);
       covered = subst (λ n. Each (λ item. IsCovered known (all_items sent [] v.packing) item) (made_at n there ++ tree_items (part_texts h.made))) (sym version)
           (subst (λ l. Each (λ item. IsCovered known l item) (made_at N there ++ tree_items (part_texts h.made))) (sym all) h.covered);
     }
@@ -287,6 +294,7 @@ module _ (w : PieceWork) (known : List Fact) (st : Standing) (sent : List Item) 
         let none : h.above ≡ [] = no_above N h.above (subst (λ os. AreOuterAt N os h.above) top h.at.outers) in
         let there : st ≡ closed_dir h.done [] = h.closed ∙ ap (closed_dir h.done) none in
         let version : v.walk.version ≡ N = ap (λ x. x.version) walk in
+        let order = subst (λ n. AllGainMore known [] (made_at n st) (all_items sent m.sealed v.packing)) (sym version) (subst (λ ls. AllGainMore known [] ls (all_items sent m.sealed v.packing)) (sym made_there) m.order) in
         let covered = subst (λ ls. Each (λ item. IsCovered known (all_items sent m.sealed v.packing) item) ls) (sym made_there) m.covered in (
           m.sealed,
           record {
@@ -296,6 +304,7 @@ module _ (w : PieceWork) (known : List Fact) (st : Standing) (sent : List Item) 
                 (subst (λ x. IsFileAt x.params x.file None) (sym walk) h.at.file) (ap (λ x. is_some x.root) walk) (subst (λ x. IsRootAt N x.root h.done) (sym walk) (named, has_texts)));
             cut = subst (λ x. IsCutSoFar x.params st) (sym walk) h.cut;
             texts = subst (λ (n : ℕ). AreTreeTextsBelow n st.done × AreTextsAround n st.above) (sym version) (subst (λ (s : Standing). AreTreeTextsBelow N s.done × AreTextsAround N s.above) (sym there) (h.texts.0, tt));
+            order = packed_whole known (made_at v.walk.version st) v.walk.file (all_items sent m.sealed v.packing) (none_waiting v.walk.params v.walk.file (subst (λ x. IsFileAt x.params x.file None) (sym walk) h.at.file)) order;
             covered = covered_so_far known (all_items sent m.sealed v.packing) v.walk.file (made_at v.walk.version st) (subst (λ n. Each (λ item. IsCovered known (all_items sent m.sealed v.packing) item) (made_at n st)) (sym version) covered);
           },
           m.by,
@@ -317,6 +326,7 @@ module _ (w : PieceWork) (known : List Fact) (st : Standing) (sent : List Item) 
         let nodes_are : v.walk.nodes.items ≡ nodes_of N (both a.done mine) = made ∙ (λ i. o.4 i ++ node i ∷ []) ∙ sym (nodes_both N a.done mine) in
         let file_is : IsFileAt v.walk.params v.walk.file None = subst (λ q. IsFileAt q v.walk.file None) (sym params) (subst (λ f. IsFileAt w.walk.params f None) (sym file) h.at.file) in
         let unended : v.walk.root ≡ None = root ∙ none_root w.walk.root h.at.over in
+        let order = subst (λ n. AllGainMore known [] (made_at n st) (all_items sent m.sealed v.packing)) (sym version) (subst (λ ls. AllGainMore known [] ls (all_items sent m.sealed v.packing)) (sym made_there) m.order) in
         let covered = subst (λ ls. Each (λ item. IsCovered known (all_items sent m.sealed v.packing) item) ls) (sym made_there) m.covered in (
           m.sealed,
           record {
@@ -326,6 +336,7 @@ module _ (w : PieceWork) (known : List Fact) (st : Standing) (sent : List Item) 
             cut = subst (λ q. IsCutSoFar q st) (sym params) h.cut;
             texts = subst (λ (n : ℕ). AreTreeTextsBelow n st.done × AreTextsAround n st.above) (sym version) (subst (λ (s : Standing). AreTreeTextsBelow N s.done × AreTextsAround N s.above) (sym there)
                 (texts_both N a.done mine around_texts.0 (has_texts, h.texts.0, tt), around_texts.1));
+            order = packed_whole known (made_at v.walk.version st) v.walk.file (all_items sent m.sealed v.packing) (none_waiting v.walk.params v.walk.file (file_is)) order;
             covered = covered_so_far known (all_items sent m.sealed v.packing) v.walk.file (made_at v.walk.version st) (subst (λ n. Each (λ item. IsCovered known (all_items sent m.sealed v.packing) item) (made_at n st)) (sym version) covered);
           },
           m.by,
@@ -442,6 +453,7 @@ module _ (w : PieceWork) (known : List Fact) (p : PartsLeft) (ready : IsReady w)
           at = was.at;
           cut = s.cut;
           texts = h.texts;
+          order = subst (λ l. AllGainMore known [] l (all_items sent [] w.packing)) (sym (was.order.1 ∙ ap (λ f. was.order.0 ++ waiting_in f) file ∙ append-nil was.order.0) ∙ sym (append-nil open_made)) was.order.2;
           covered = subst (λ l. Each (λ item. IsCovered known (all_items sent [] w.packing) item) l) (sym (append-nil open_made)) (covered_whole known (all_items sent [] w.packing) w.walk.file open_made file was.covered);
         };
       }

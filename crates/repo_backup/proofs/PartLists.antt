@@ -67,7 +67,7 @@ texts_more part [] h texts = h
 texts_more part (second ∷ more) h texts = (h, texts)
 
 -- the texts of those made come first
-made_first : (left made : List (List Node)) → (more : List (List ℕ)) × (part_texts (left ++ made) ≡ part_texts made ++ more)
+pub made_first : (left made : List (List Node)) → (more : List (List ℕ)) × (part_texts (left ++ made) ≡ part_texts made ++ more)
 made_first [] made = ([], sym (append-nil (part_texts made)))
 made_first (part ∷ left) made =
     let k = made_first left made in

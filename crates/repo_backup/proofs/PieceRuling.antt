@@ -1,7 +1,9 @@
 -- What a backup may put that feeds items, or is fed them, from what it knows of its trace.
-use Rattle.std.proofs.Common.{arith, ◌≡◌, ◌≢◌, ◌≤◌, ◌+◌, ◌++◌, ◌∷◌, [], ℕ, zero, suc, Bool, true, false, List, length, map, Option, Some, None, is_some, refl, sym, ap, subst, inl, inr, ◌⊎◌, ◌∙◌, append-nil, length-append, Contains}
+use Rattle.std.proofs.Common.{arith, ◌≡◌, ◌≢◌, ◌≤◌, ◌<◌, ◌+◌, ◌++◌, ◌∷◌, [], ℕ, zero, suc, Bool, true, false, List, length, map, Option, Some, None, is_some, refl, sym, ap, subst, inl, inr, ◌⊎◌, ◌∙◌, append-nil, length-append, Contains}
 use Rattle.std.proofs.lemmas.List.Elements.{Contains-append_left, Contains-append_right}
+use Rattle.repo_index.specs.IndexText.{facts_in}
 use Rattle.repo_index.specs.declared.facts.Fact.{Fact}
+use Rattle.repo_name.specs.Limits.{facts_limit}
 use Rattle.repo_name.specs.declared.names.Name.{Name}
 use Rattle.repo_pack.specs.PackLayout.{Item, item_of, IsTruePack}
 use Rattle.repo_session.specs.Askers.{Holding}
@@ -36,10 +38,12 @@ use Rattle.repo_backup.specs.Rules.{IsMade, SnapshotRule}
 use Rattle.repo_backup.specs.Standings.{Standing, place_at, IsCutSoFar, LeadTo, made_at}
 use Rattle.repo_backup.specs.declared.piece_backing.PieceBacking.{PieceBacking}
 use Rattle.repo_backup.proofs.Closing.{some_here}
+use Rattle.repo_backup.proofs.Dues.{index_undue}
 use Rattle.repo_backup.proofs.FedOn.{fed_exchanged, fed_items}
 use Rattle.repo_backup.proofs.FolderOrder.{folder_order}
 use Rattle.repo_backup.proofs.Leading.{made_of_all}
 use Rattle.repo_backup.proofs.NamePlaces.{some_open}
+use Rattle.repo_backup.proofs.Orders.{sealed_order}
 use Rattle.repo_backup.proofs.Piecing.{plain, packing_in, made_in, covered_whole}
 use Rattle.repo_backup.proofs.Ruling.{spelled}
 use Rattle.repo_backup.proofs.Spelling.{spelled_are_handed}
@@ -214,15 +218,17 @@ piece_last facts b puts sealed es h unlaid over =
     }
 
 -- the sealed pack may be put
-pub piece_pack : (facts : List Fact) (b : PieceBacking) (puts : List Put) (sealed : List Item) (es : Trace) (h : PieceAt facts b puts [] sealed es) (x : List ℕ) → IsTruePack x sealed → IsPromptPack es sealed → IsFullPack es sealed ⊎ (AreOver es × (b.work.parts ≡ None)) → PiecePackRule es x
-piece_pack facts b puts sealed es h x pack prompt full = record {
+pub piece_pack : (facts : List Fact) (b : PieceBacking) (puts : List Put) (sealed : List Item) (es : Trace) (h : PieceAt facts b puts [] sealed es) → b.listed ≡ None → length (facts_in b.waiting) < facts_limit → (x : List ℕ) → IsTruePack x sealed → IsPromptPack es sealed → IsFullPack es sealed ⊎ (AreOver es × (b.work.parts ≡ None)) → PiecePackRule es x
+piece_pack facts b puts sealed es h unlisted few x pack prompt full = record {
   indexes = h.written.indexed;
   first = h.written.none;
+  unlisted = index_undue facts b puts es h.written unlisted few;
   taken = h.taken;
   kept = h.kept;
   items = sealed;
   pack = pack;
   made = λ item among. (h.config, h.st, h.at, sealed_made facts b puts sealed (fed_in es) es h item among);
+  order = (h.config, h.st, h.at, sealed_order facts b puts sealed (fed_in es) es h);
   once = sealed_once facts b puts sealed (fed_in es) es h;
   unread = sealed_unread facts b puts sealed (fed_in es) es h;
   unput = sealed_unput facts b puts sealed (fed_in es) es h;
@@ -260,6 +266,7 @@ module _ (facts : List Fact) (b : PieceBacking) (puts : List Put) (items : Feedi
         done = all_done b.counts puts (map listing_of (puts ++ [])) [] es written.put written.lists written.none;
         snapshot = p.snapshot;
         reads = p.reads;
+        written = p.written;
         token_is = p.token;
         row = lock_row task holding.token;
         locked = lock_there task holding.token es working;

@@ -24,13 +24,13 @@ use Rattle.repo_writing.specs.Filling.{HasConfig, IsFullIndex}
 use Rattle.repo_writing.specs.Putting.{PutsIndexOf}
 use Rattle.repo_writing.specs.Sealing.{IsSealedOf, IsListedAs}
 use Rattle.repo_writing.specs.Writing.{Put, items_of, AreCounts, FewWait, ListsEachPack}
-use Rattle.repo_writing.proofs.Writings.{listing_of, items_push, put_of, is_put, puts_lawful, waits_lawful, waits_few}
+use Rattle.repo_writing.proofs.Writings.{listing_of, items_push, put_of, is_put, puts_lawful, waits_lawful, waits_few, all_done}
 use Rattle.repo_backup.specs.Backing.{HasWritten}
 use Rattle.repo_backup.specs.Items.{Feeding}
 use Rattle.repo_backup.specs.Packings.{IsCovered, all_items}
 use Rattle.repo_backup.specs.PieceRules.{PieceAreLast, PiecePackRule, PieceAllows, PieceConcludes, PieceTooLarge, AreOver, WantsInput, piece_rule}
 use Rattle.repo_backup.specs.PieceStates.{piece_task, listed_of, waits, GoesBy, StandsAt, HasBegun, NothingFed, KnowsPiecePut, PieceWaits, PutsPack, PutsIndex, KnowsPieces, WantsPieces, IsDueAt, IsIdleAt, IsPieceDone, IsPieceIdle, IsPieceLarge, PutsSnapshotOf, large_end}
-use Rattle.repo_backup.specs.Pieces.{HasRoom, IsCoveredSoFar, IsAt, AreTextsAround, WorkStands, at_beginning}
+use Rattle.repo_backup.specs.Pieces.{HasRoom, IsCoveredSoFar, ArePackedSoFar, IsAt, AreTextsAround, WorkStands, at_beginning}
 use Rattle.repo_backup.specs.Folders.{nodes_of, tree_items}
 use Rattle.repo_backup.specs.PartsMade.{parts_by, open_dir}
 use Rattle.repo_backup.specs.Plans.{AreTreeTextsBelow}
@@ -40,10 +40,12 @@ use Rattle.repo_session.specs.declared.outcomes.End.{End}
 use Rattle.repo_session.specs.declared.outcomes.Outcome.{Outcome}
 use Rattle.repo_backup.specs.Rules.{IndexRule}
 use Rattle.repo_backup.specs.Standings.{Standing, IsCutSoFar, made_at}
+use Rattle.repo_backup.specs.Waiting.{AllGainMore}
 use Rattle.repo_backup.specs.declared.piece_backing.PieceBacking.{PieceBacking}
 use Rattle.repo_backup.specs.declared.piece_works.PieceWork.{PieceWork}
 use Rattle.repo_writing.proofs.Filling.{config_later}
 use Rattle.repo_writing.proofs.PutLemmas.{objects_put_other}
+use Rattle.repo_backup.proofs.Dues.{none_being_put, index_undue, pack_undue}
 use Rattle.repo_backup.proofs.PackingLemmas.{all_out, packing_out}
 use Rattle.repo_backup.proofs.Piecing.{packing_in, room_as}
 use Rattle.repo_backup.proofs.PieceRuling.{over_is, piece_last, piece_snapshot, sent_is, sent_once}
@@ -66,6 +68,7 @@ stands_out w v known st sent items walk parts writer added none (inl h) =
         at = subst (λ x. IsAt x st) (sym walk) h.1.at;
         cut = subst (λ x. IsCutSoFar x.params st) (sym walk) h.1.cut;
         texts = subst (λ x. AreTreeTextsBelow x.version st.done × AreTextsAround x.version st.above) (sym walk) h.1.texts;
+        order = subst (λ x. ArePackedSoFar known (made_at x.version st) x.file (all_items (sent ++ items) [] v.packing)) (sym walk) (subst (λ is. ArePackedSoFar known (made_at w.walk.version st) w.walk.file is) (sym all) h.1.order);
         covered = subst (λ x. Each (λ item. IsCoveredSoFar known (all_items (sent ++ items) [] v.packing) x.file item) (made_at x.version st)) (sym walk) (subst (λ is. Each (λ item. IsCoveredSoFar known is w.walk.file item) (made_at w.walk.version st)) (sym all) h.1.covered);
       },
     )
@@ -88,6 +91,8 @@ stands_out w v known st sent items walk parts writer added none (inr h) =
       at = subst (λ x. IsAt x there) (sym walk) h.at;
       cut = subst (λ x. IsCutSoFar x.params st) (sym walk) h.cut;
       texts = subst (λ x. AreTreeTextsBelow x.version h.done × AreTextsAround x.version h.above) (sym walk) h.texts;
+      order = subst (λ x. AllGainMore known [] (made_at x.version there ++ tree_items (part_texts h.made)) (all_items (sent ++ items) [] v.packing)) (sym walk)
+          (subst (λ is. AllGainMore known [] (made_at w.walk.version there ++ tree_items (part_texts h.made)) is) (sym all) h.order);
       covered = subst (λ x. Each (λ item. IsCovered known (all_items (sent ++ items) [] v.packing) item) (made_at x.version there ++ tree_items (part_texts h.made))) (sym walk)
           (subst (λ is. Each (λ item. IsCovered known is item) (made_at w.walk.version there ++ tree_items (part_texts h.made))) (sym all) h.covered);
     })
@@ -189,9 +194,6 @@ index_is_put facts b c token n x items es h work counts waiting same =
 
 -- ---- what comes next
 
-pub none_being_put : (b : PieceBacking) → b.listed ≡ None → waits b ≡ b.waiting
-none_being_put b none = ap (λ o. b.waiting ++ listed_of o) none ∙ append-nil b.waiting
-
 -- an index of what waits may be put, with it each pack is listed, and it is known then
 pub index_out : (facts : List Fact) (b : PieceBacking) (token : Token) (step : Step) (items : Feeding) (es : Trace) (h : IsIdleAt facts b items es) → b.waiting ≢ [] → PutsIndexOf token b.waiting step
     → (x : List ℕ) × IsIndexText x b.waiting × (length x ≤ index_limit) × (rule : IndexRule es x) × ListsEachPack rule.lists.packs es × PutsIndex facts b x items es × (step ≡ Step.Ask (Ask.Put token Kind.Index (naming.name x) x))
@@ -201,7 +203,7 @@ index_out facts b token step items es h some puts =
     let lawful = puts_lawful b.counts h.puts [] es written.put in
     let few = waits_few all b.waiting es written.lists lawful h.few in
     let k = puts (waits_lawful all b.waiting es written.lists lawful) few in
-    let may = index_may facts b.waiting b.counts h.puts es k.0 written (sent_once facts b h.puts [] items es h.at) k.1 few some in
+    let may = index_may facts b.waiting b.counts h.puts es k.0 written (sent_once facts b h.puts [] items es h.at) k.1 k.4 few some in
     (k.0, k.1, k.2, may.0, may.1, record { puts = h.puts; at = h.at; unsealed = h.unsealed; listed = h.listed; reads = k.1 }, k.3)
 
 -- the job goes on after the exchange as after its trace
@@ -210,6 +212,21 @@ turns_on rule who Knows Wants e es (Step.Ask ask) none h = (inl none, h)
 turns_on rule who Knows Wants e es (Step.Finish outcome) none h = (inl none, h)
 turns_on rule who Knows Wants e es Step.Want none h = (inl none, h.0, h.1)
 turns_on rule who Knows Wants e es Step.Away none h = absurd h
+
+-- what may be done where input is wanted
+pub input_wanted : (c : Catalog) (backing : Option PieceBacking) (b : PieceBacking) (es : Trace) → backing ≡ Some b → PieceWaits c.lookup b es → WantsInput es × WantsPieces c backing es
+input_wanted c backing b es is h = (
+  record {
+    indexes = h.at.written.indexed;
+    taken = h.at.taken;
+    goes_on = sym (over_is c.lookup b h.puts [] (fed_in es) es h.at h.ready.unlaid) ∙ ap is_some h.ready.unended;
+    kept = h.at.kept;
+    done = all_done b.counts h.puts (map listing_of (h.puts ++ [])) (waits b) es h.at.written.put h.at.written.lists h.at.written.none;
+    unpacked = pack_undue c.lookup b h.puts es h.at h.ready.unlaid;
+    unlisted = index_undue c.lookup b h.puts es h.at.written h.listed h.room;
+  },
+  (b, is, h),
+)
 
 module _ (c : Catalog) (backing : Option PieceBacking) (b : PieceBacking) (is : backing ≡ Some b) (holding : Holding) (es : Trace) (working : IsWorking (piece_task holding.who) holding.token es) where
   -- a pack is put
@@ -225,11 +242,11 @@ module _ (c : Catalog) (backing : Option PieceBacking) (b : PieceBacking) (is : 
       let x = k.0 in
       let S : Step → Type 0 = λ s. MayGoOn piece_rule holding.who (KnowsPieces c backing) (WantsPieces c backing) es s in
       let T : Token → Type 0 = λ t. S (Step.Ask (Ask.Put t Kind.Index (naming.name x) x)) in
-      let full : IsFullIndex x ⊎ (PieceAreLast es [] × ListsEachPack k.3.lists.packs es) = elim why [ inl many ↦ inl (b.waiting, k.1, many) | inr ended ↦ inr (piece_last c.lookup b h.puts [] es h.at ended.1 ended.0, k.4) ] in
+      let full : IsFullIndex x ⊎ PieceAreLast es [] = elim why [ inl many ↦ inl (b.waiting, k.1, many) | inr ended ↦ inr (piece_last c.lookup b h.puts [] es h.at ended.1 ended.0) ] in
       let may : T holding.token = record {
         work = tt;
         may = (working, refl, k.2);
-        allowed = (k.3, h.at.kept, full);
+        allowed = (k.3, h.at.kept, k.4, full);
         knows = inr (b, is, k.5);
       } in
       subst S (sym k.6) (subst T (sym own) may)
@@ -251,10 +268,8 @@ module _ (c : Catalog) (backing : Option PieceBacking) (b : PieceBacking) (is : 
     -- input is wanted
     pub input_step : b.work.walk.root ≡ None → length (facts_in b.waiting) < facts_limit → MayGoOn piece_rule holding.who (KnowsPieces c backing) (WantsPieces c backing) es Step.Want
     input_step unended room =
-        let i = h.idle in (
-          record { indexes = i.at.written.indexed; taken = i.at.taken; goes_on = sym (over_is c.lookup b i.puts [] (fed_in es) es i.at h.unlaid) ∙ ap is_some unended; kept = i.at.kept },
-          (b, is, record { puts = i.puts; at = i.at; ready = record { unsealed = i.unsealed; unlaid = h.unlaid; opened = i.at.opened; unended = unended }; listed = i.listed; room = room }),
-        )
+        let i = h.idle in
+        input_wanted c backing b es is (record { puts = i.puts; at = i.at; ready = record { unsealed = i.unsealed; unlaid = h.unlaid; opened = i.at.opened; unended = unended }; listed = i.listed; room = room })
 
     -- the snapshot is put
     pub snapshot_step : (root : Name) (step : Step) → b.work.walk.root ≡ Some root → b.waiting ≡ [] → PutsSnapshotOf holding root b.work.walk.version step → MayGoOn piece_rule holding.who (KnowsPieces c backing) (WantsPieces c backing) es step
@@ -354,13 +369,6 @@ input_first facts b es h indexed gives = record {
   listed = h.0.listed;
   room = none_waits b.waiting h.0.waiting;
 }
-
--- what may be done where input is wanted
-pub input_wanted : (c : Catalog) (backing : Option PieceBacking) (b : PieceBacking) (es : Trace) → backing ≡ Some b → PieceWaits c.lookup b es → WantsInput es × WantsPieces c backing es
-input_wanted c backing b es is h = (
-  record { indexes = h.at.written.indexed; taken = h.at.taken; goes_on = sym (over_is c.lookup b h.puts [] (fed_in es) es h.at h.ready.unlaid) ∙ ap is_some h.ready.unended; kept = h.at.kept },
-  (b, is, h),
-)
 
 -- ---- puts
 

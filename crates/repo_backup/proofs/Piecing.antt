@@ -21,7 +21,7 @@ use Rattle.repo_backup.specs.Folders.{Folder, joined, nodes_of, trees_of, IsCutB
 use Rattle.repo_backup.specs.Items.{FileSoFar, Place, after, with_more, MayGrow}
 use Rattle.repo_backup.specs.Packings.{IsPacking, IsCovered, AllGain, IsSealedBy, all_items}
 use Rattle.repo_backup.specs.Waiting.{AllGainMore, PacksAll, TakesMore}
-use Rattle.repo_backup.specs.Pieces.{HasRoom, IsCoveredSoFar, waiting_in, IsPieceAt, IsFileAt, AreOuterAt, AreTextsAround, IsRootAt, IsAt, PieceStands, WorkStands, IsSealedAs, Goes, Stays}
+use Rattle.repo_backup.specs.Pieces.{HasRoom, IsCoveredSoFar, ArePackedSoFar, waiting_in, IsPieceAt, IsFileAt, AreOuterAt, AreTextsAround, IsRootAt, IsAt, PieceStands, WorkStands, IsSealedAs, Goes, Stays}
 use Rattle.repo_backup.specs.Plans.{AreTreeTextsBelow}
 use Rattle.repo_backup.specs.Standings.{Around, FileCut, Standing, path_of, entries_at, file_at, place_at, IsCutOpen, AreCutAround, IsCutSoFar, chunk_items, made_below, chunks_made, made_at}
 use Rattle.repo_backup.specs.declared.packing.Packing.{Packing}
@@ -36,7 +36,7 @@ use Rattle.repo_backup.proofs.Leading.{made_open}
 use Rattle.repo_backup.proofs.Lengthening.{joined_both, none_cut}
 use Rattle.repo_backup.proofs.NamePlaces.{some_open}
 use Rattle.repo_backup.proofs.PackingLemmas.{each_one_more}
-use Rattle.repo_backup.proofs.Waits.{takes_open}
+use Rattle.repo_backup.proofs.Waits.{takes_open, gains_then}
 
 -- all but the open file is the same
 pub record SameWay (w v : PieceWork) : Type 0 where
@@ -130,6 +130,14 @@ covered_whole known all file made none h = each_map (λ x. IsCoveredSoFar known 
 pub covered_so_far : (known : List Fact) (all : List Item) (file : Option PieceFile) (made : List Item) → Each (λ x. IsCovered known all x) made → Each (λ x. IsCoveredSoFar known all file x) made
 covered_so_far known all file made h = each_map (λ x. IsCovered known all x) (λ x. IsCoveredSoFar known all file x) made (λ x k. inl k) h
 
+-- where none waits, all was packed
+pub none_waiting : (params : Parameters) (file : Option PieceFile) → IsFileAt params file None → waiting_in file ≡ []
+none_waiting params None h = refl
+none_waiting params (Some f) h = absurd h
+
+pub packed_whole : (known : List Fact) (made : List Item) (file : Option PieceFile) (items : List Item) → waiting_in file ≡ [] → AllGainMore known [] made items → ArePackedSoFar known made file items
+packed_whole known made file items none gains = (made, sym (append-nil made) ∙ ap (λ l. made ++ l) (sym none), gains)
+
 -- ---- whatever was fed
 
 -- a walk stands somewhere, by the version that it has
@@ -162,16 +170,21 @@ cut_in w known st sent sealed (inr h) = h.cut
 
 -- no blob was made
 pub stands_on : (w v : PieceWork) (known : List Fact) (st now : Standing) (sent sealed : List Item) → v.packing ≡ w.packing → v.walk.version ≡ w.walk.version → made_at w.walk.version now ≡ made_at w.walk.version st → IsAt v.walk now → IsCutSoFar v.walk.params now
-    → AreTreeTextsBelow w.walk.version now.done × AreTextsAround w.walk.version now.above → ((x : Item) → Contains (waiting_in w.walk.file) x → Contains (waiting_in v.walk.file) x) → PieceStands w known st sent sealed → PieceStands v known now sent sealed
+    → AreTreeTextsBelow w.walk.version now.done × AreTextsAround w.walk.version now.above → waiting_in v.walk.file ≡ waiting_in w.walk.file → PieceStands w known st sent sealed → PieceStands v known now sent sealed
 stands_on w v known st now sent sealed packed version made at cut texts waits h = record {
   packing = subst (λ q. IsPacking q known sent sealed) (sym packed) h.packing;
   of_made = λ item among. subst (λ n. Contains (made_at n now) item) (sym version) (subst (λ l. Contains l item) (sym made) (h.of_made item (subst (λ q. Contains (all_items sent sealed q) item) packed among)));
   at = at;
   cut = cut;
   texts = subst (λ n. AreTreeTextsBelow n now.done × AreTextsAround n now.above) (sym version) texts;
+  order = (
+    h.order.0,
+    ap (λ n. made_at n now) version ∙ made ∙ h.order.1 ∙ ap (λ l. h.order.0 ++ l) (sym waits),
+    subst (λ q. AllGainMore known [] h.order.0 (all_items sent sealed q)) (sym packed) h.order.2,
+  );
   covered = subst (λ n. Each (λ item. IsCoveredSoFar known (all_items sent sealed v.packing) v.walk.file item) (made_at n now)) (sym version)
       (subst (λ q. Each (λ item. IsCoveredSoFar known (all_items sent sealed q) v.walk.file item) (made_at w.walk.version now)) (sym packed) (subst (λ l. Each (λ item. IsCoveredSoFar known (all_items sent sealed w.packing) v.walk.file item) l) (sym made)
-      (waits_on known (all_items sent sealed w.packing) w.walk.file v.walk.file (made_at w.walk.version st) waits h.covered)));
+      (waits_on known (all_items sent sealed w.packing) w.walk.file v.walk.file (made_at w.walk.version st) (λ x among. subst (λ l. Contains l x) (sym waits) among) h.covered)));
 }
 
 -- a chunk more waits
@@ -191,6 +204,11 @@ stands_wait w v known st now sent sealed item packed version made waits at cut t
       at = at;
       cut = cut;
       texts = subst (λ n. AreTreeTextsBelow n now.done × AreTextsAround n now.above) (sym version) texts;
+      order = (
+        h.order.0,
+        ap (λ n. made_at n now) version ∙ made ∙ ap (λ l. l ++ item ∷ []) h.order.1 ∙ append_assoc h.order.0 waiting (item ∷ []) ∙ ap (λ l. h.order.0 ++ l) (sym waits),
+        subst (λ q. AllGainMore known [] h.order.0 (all_items sent sealed q)) (sym packed) h.order.2,
+      );
       covered = subst (λ n. Each (λ x. IsCoveredSoFar known (all_items sent sealed v.packing) v.walk.file x) (made_at n now)) (sym version)
           (subst (λ q. Each (λ x. IsCoveredSoFar known (all_items sent sealed q) v.walk.file x) (made_at w.walk.version now)) (sym packed) (subst (λ l. Each (λ x. IsCoveredSoFar known all v.walk.file x) l) (sym made) covered));
     }
@@ -199,9 +217,10 @@ stands_wait w v known st now sent sealed item packed version made waits at cut t
 pub stands_many : (w v : PieceWork) (known : List Fact) (st now : Standing) (sent items : List Item) (sealing : Sealing) → PacksAll known sealing items w.packing v.packing → v.walk.version ≡ w.walk.version
     → ((x : Item) → Contains (made_at w.walk.version st) x → Contains (made_at w.walk.version now) x) → ((x : Item) → Contains items x → Contains (made_at w.walk.version now) x)
     → ((x : Item) → Contains (made_at w.walk.version now) x → Contains (made_at w.walk.version st) x ⊎ Contains items x) → ((x : Item) → Contains (waiting_in w.walk.file) x → Contains items x)
+    → ((first : List Item) → made_at w.walk.version st ≡ first ++ waiting_in w.walk.file → made_at w.walk.version now ≡ (first ++ items) ++ waiting_in v.walk.file)
     → IsAt v.walk now → IsCutSoFar v.walk.params now → AreTreeTextsBelow w.walk.version now.done × AreTextsAround w.walk.version now.above → PieceStands w known st sent []
     → (sealed : List Item) × PieceStands v known now sent sealed × IsSealedBy sealing w.packing.packer.writer.target sealed
-stands_many w v known st now sent items sealing packs version kept made split waits at cut texts h =
+stands_many w v known st now sent items sealing packs version kept made split waits front at cut texts h =
     let k = packs sent h.packing in
     let was = all_items sent [] w.packing in
     let all = all_items sent k.0 v.packing in
@@ -220,6 +239,7 @@ stands_many w v known st now sent items sealing packs version kept made split wa
         at = at;
         cut = cut;
         texts = subst (λ n. AreTreeTextsBelow n now.done × AreTextsAround n now.above) (sym version) texts;
+        order = (h.order.0 ++ items, ap (λ n. made_at n now) version ∙ front h.order.0 h.order.1, gains_then known [] was all h.order.0 items h.order.2 k.2);
         covered = subst (λ n. Each (λ x. IsCoveredSoFar known all v.walk.file x) (made_at n now)) (sym version) (each_from (λ x. IsCoveredSoFar known all v.walk.file x) now_made covers);
       },
       k.3,
@@ -266,10 +286,8 @@ module _ (w v : PieceWork) (f g : PieceFile) (known : List Fact) (is : w.walk.fi
       (subst (λ o. IsFileAt v.walk.params o (Some c)) (sym now_is) piece) (ap is_some same.root ∙ at.over) (subst (λ r. IsRootAt V r st.done) (sym same.root) at.root)
 
   -- the same chunks wait
-  same_waiting : g.ended ≡ f.ended → (x : Item) → Contains (waiting_in w.walk.file) x → Contains (waiting_in v.walk.file) x
-  same_waiting ended x among =
-      let all : waiting_in v.walk.file ≡ waiting_in w.walk.file = ap waiting_in now_is ∙ ap chunk_items ended ∙ ap waiting_in (sym is) in
-      subst (λ l. Contains l x) (sym all) among
+  same_waiting : g.ended ≡ f.ended → waiting_in v.walk.file ≡ waiting_in w.walk.file
+  same_waiting ended = ap waiting_in now_is ∙ ap chunk_items ended ∙ ap waiting_in (sym is)
 
   -- the piece was taken, and the chunk goes on
   pub more_taken : (piece : List ℕ) → f.size + length piece < file_end → v.packing ≡ w.packing → g.name ≡ f.name → g.size ≡ f.size + length piece → g.content.items ≡ f.content.items → g.rest.items ≡ f.rest.items ++ piece
@@ -322,8 +340,13 @@ module _ (w v : PieceWork) (f g : PieceFile) (known : List Fact) (is : w.walk.fi
         at = subst (λ x. IsAt v.walk (record { done = st.done; above = st.above; file = x; over = st.over })) (sym o.1) at;
         cut = record { done = subst (λ q. IsCutBy q st.done) (sym same.params) h.cut.done; above = subst (λ q. AreCutAround q st.above) (sym same.params) h.cut.above; file = subst (λ q. IsCutOpen q st.file) (sym same.params) h.cut.file };
         texts = subst (λ n. AreTreeTextsBelow n st.done × AreTextsAround n st.above) (sym same.version) h.texts;
+        order = (
+          h.order.0,
+          ap (λ n. made_at n st) same.version ∙ h.order.1 ∙ ap (λ l. h.order.0 ++ l) (sym (same_waiting ended)),
+          subst (λ l. AllGainMore known [] h.order.0 l) (sym all) h.order.2,
+        );
         covered = subst (λ n. Each (λ item. IsCoveredSoFar known (all_items sent [] v.packing) v.walk.file item) (made_at n st)) (sym same.version) (subst (λ l. Each (λ item. IsCoveredSoFar known l v.walk.file item) (made_at w.walk.version st)) (sym all)
-            (waits_on known (all_items sent [] w.packing) w.walk.file v.walk.file (made_at w.walk.version st) (same_waiting ended) h.covered));
+            (waits_on known (all_items sent [] w.packing) w.walk.file v.walk.file (made_at w.walk.version st) (λ x among. subst (λ l. Contains l x) (sym (same_waiting ended)) among) h.covered));
       }
 
   -- a chunk ended, and waits
@@ -409,7 +432,9 @@ module _ (w v : PieceWork) (f g : PieceFile) (known : List Fact) (is : w.walk.fi
       let cut : IsCutSoFar v.walk.params st = subst (λ q. IsCutSoFar q st) (sym same.params) h.cut in
       let among : (x : Item) → Contains items x → Contains (made_at V st) x = λ x in_items. subst (λ y. Contains (made_at V (record { done = st.done; above = st.above; file = y; over = st.over })) x) (sym o.1) (waiting_made V st.done st.above st.over c p.named f.ended p.chunks x in_items) in
       let waits : (x : Item) → Contains (waiting_in w.walk.file) x → Contains items x = λ x waiting. subst (λ y. Contains (waiting_in y) x) is waiting in
-      stands_many w v known st st sent items Sealing.Due packs same.version (λ x made. made) among (λ x made. inl made) waits at_now cut h.texts h
+      let front : (first : List Item) → made_at V st ≡ first ++ waiting_in w.walk.file → made_at V st ≡ (first ++ items) ++ waiting_in v.walk.file = λ first e.
+      e ∙ ap (λ x. first ++ waiting_in x) is ∙ sym (append-nil (first ++ items)) ∙ ap (λ l. (first ++ items) ++ l) (sym (ap waiting_in now_is ∙ ap chunk_items ended)) in
+      stands_many w v known st st sent items Sealing.Due packs same.version (λ x made. made) among (λ x made. inl made) waits front at_now cut h.texts h
 
 -- where no pack is sealed, no items are
 pub none_sealed : (sealed : Option Sealed) (items : List Item) → sealed ≡ None → IsSealed sealed items → items ≡ []

@@ -130,6 +130,11 @@ pub gain_one_more : (known : List Fact) (old mid new : List Item) (items : List 
 gain_one_more known old mid new [] item h k = (new, subst (λ l. AllGain known l new item) h k, refl)
 gain_one_more known old mid new (i ∷ items) item h k = (h.0, h.1, gain_one_more known h.0 mid new items item h.2 k)
 
+-- some, and then others
+pub gains_then : (known : List Fact) (old mid new : List Item) (first then : List Item) → AllGainMore known old first mid → AllGainMore known mid then new → AllGainMore known old (first ++ then) new
+gains_then known old mid new [] then h k = subst (λ l. AllGainMore known l then new) h k
+gains_then known old mid new (item ∷ first) then h k = (h.0, h.1, gains_then known h.0 mid new first then h.2 k)
+
 pub grows_on : (a b c : Packing) → GrowsBy a b → GrowsBy b c → GrowsBy a c
 grows_on a b c h k = ((h.0.0 ++ k.0.0, k.0.1 ∙ ap (λ l. l ++ k.0.0) h.0.1 ∙ append_assoc a.packer.writer.items h.0.0 k.0.0), k.1 ∙ h.1)
 

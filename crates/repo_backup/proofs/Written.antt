@@ -1,6 +1,7 @@
 -- What was written, from one exchange to the next.
-use Rattle.std.proofs.Common.{◌≡◌, ◌≢◌, ◌↔◌, ◌++◌, ◌∷◌, [], ℕ, List, map, sym, ap, subst, inl, inr, refl, ◌⊎◌, ◌∙◌, Contains}
+use Rattle.std.proofs.Common.{◌≡◌, ◌≢◌, ◌<◌, ◌↔◌, ◌++◌, ◌∷◌, [], ℕ, List, length, map, sym, ap, subst, inl, inr, refl, ◌⊎◌, ◌∙◌, Contains}
 use Rattle.std.proofs.lemmas.List.{append-nil, map_push}
+use Rattle.repo_name.specs.Limits.{facts_limit}
 use Rattle.repo_name.specs.declared.kinds.BlobKind.{BlobKind}
 use Rattle.repo_name.specs.declared.kinds.Kind.{Kind}
 use Rattle.repo_name.specs.declared.names.Name.{Name}
@@ -8,24 +9,25 @@ use Rattle.repo_name.specs.declared.tokens.Token.{Token}
 use Rattle.repo_wire.specs.declared.messages.Ask.{Ask}
 use Rattle.repo_wire.specs.declared.messages.Say.{Say}
 use Rattle.repo_pack.specs.PackLayout.{Item}
-use Rattle.repo_index.specs.IndexText.{fact_of, IsIndexText}
-use Rattle.repo_index.specs.IndexWriting.{AreFew}
+use Rattle.repo_index.specs.IndexText.{facts_in, fact_of, IsIndexText}
+use Rattle.repo_index.specs.IndexWriting.{AreFew, index_text}
 use Rattle.repo_index.specs.declared.facts.Fact.{Fact}
 use Rattle.repo_index.specs.declared.facts.PackFacts.{PackFacts}
 use Rattle.repo_session.specs.Catalogs.{AreIndexed}
 use Rattle.repo_session.specs.Traces.{Each, Exchange, Trace, object_put, objects_put, ReadFact, IsGiven}
 use Rattle.repo_writing.specs.Blobs.{AreOnce, HasFact}
 use Rattle.repo_writing.specs.Putting.{IsPacked, IsIndexed}
-use Rattle.repo_writing.specs.Writing.{Put, IsPut, items_of, AreCounts, AreListed, ListsEachPack}
+use Rattle.repo_writing.specs.Writing.{Put, IsPut, items_of, AreCounts, AreListed, ListsEachPack, FewAreUnlisted}
 use Rattle.repo_writing.specs.declared.counts.Counts.{Counts}
 use Rattle.repo_writing.proofs.BlobLemmas.{once_apart}
 use Rattle.repo_name.proofs.Containing.{contains_map}
 use Rattle.repo_writing.proofs.PutLemmas.{each_contained, objects_put_other, put_done_now, gives_later, indexed_later}
 use Rattle.repo_writing.proofs.Writings.{listing_of, none_put, none_listed, packs_stay, lists_stay, pack_sent, pack_done, packed_one, put_listed, waits_among, waits_more, index_done, put_indexed, counted}
+use Rattle.repo_writing.proofs.Unlisted.{waits_last, few_unlisted}
 use Rattle.repo_backup.specs.Backing.{HasWritten}
 use Rattle.repo_backup.specs.Packings.{IsCovered}
 use Rattle.repo_backup.specs.Rules.{IndexRule, IsStored}
-use Rattle.repo_backup.proofs.FactsOnce.{waits_once, waits_unindexed, waits_last}
+use Rattle.repo_backup.proofs.FactsOnce.{waits_once, waits_unindexed}
 
 -- all indexes are read, and nothing was put
 pub begin_written : (known : List Fact) (counts : Counts) (es : Trace) → AreIndexed es → ((fact : Fact) → Contains known fact ↔ ReadFact es fact)
@@ -39,7 +41,7 @@ begin_written known counts es indexed gives none counted = record {
 }
 
 -- a fact that is given is known
-given_known : (known : List Fact) (es : Trace) (k : BlobKind) (n : Name) → ((fact : Fact) → Contains known fact ↔ ReadFact es fact) → IsGiven es k n → HasFact known k n
+pub given_known : (known : List Fact) (es : Trace) (k : BlobKind) (n : Name) → ((fact : Fact) → Contains known fact ↔ ReadFact es fact) → IsGiven es k n → HasFact known k n
 given_known known es k n gives g =
     let kinds = g.2 in
     let names = g.3 in
@@ -88,14 +90,19 @@ module _ (known : List Fact) (waiting : List PackFacts) (counts : Counts) (puts 
   pub listed_puts : (es : Trace) → HasWritten known waiting counts puts [] es → AreListed (map listing_of puts) waiting es
   listed_puts es b = subst (λ ps. AreListed (map listing_of ps) waiting es) (append-nil puts) b.lists
 
+  -- where less than a full index waits, none is due
+  pub none_due : (es : Trace) → HasWritten known waiting counts puts [] es → length (facts_in waiting) < facts_limit → FewAreUnlisted es
+  none_due es b few = few_unlisted counts puts waiting es b.put (listed_puts es b) few
+
   -- where each blob of the packs put is there once, an index of what waits may be put, and with it each pack is listed
-  pub index_may : (es : Trace) (x : List ℕ) → HasWritten known waiting counts puts [] es → AreOnce (items_of puts) → IsIndexText x waiting → AreFew waiting → waiting ≢ [] → (rule : IndexRule es x) × ListsEachPack rule.lists.packs es
-  index_may es x b once reads few some =
+  pub index_may : (es : Trace) (x : List ℕ) → HasWritten known waiting counts puts [] es → AreOnce (items_of puts) → IsIndexText x waiting → x ≡ index_text waiting → AreFew waiting → waiting ≢ [] → (rule : IndexRule es x) × ListsEachPack rule.lists.packs es
+  index_may es x b once reads written few some =
       let listed = listed_puts es b in (
         record {
           indexes = b.indexed;
           first = b.none;
           lists = record { packs = waiting; reads = reads; some = some; each = λ l among. put_listed counts puts es b.put l (waits_among (map listing_of puts) waiting es l listed among) };
+          written = written;
           few = few;
           once = waits_once counts puts waiting es b.put listed once;
           unindexed = waits_unindexed counts puts waiting es b.put listed once;

@@ -16,7 +16,7 @@ use Rattle.repo_session.specs.Traces.{Trace, fed_in, objects_put}
 use Rattle.repo_session.specs.declared.catalogs.Catalog.{Catalog}
 use Rattle.repo_session.specs.declared.jobs.Step.{Step}
 use Rattle.repo_session.specs.declared.outcomes.End.{End}
-use Rattle.repo_tree.specs.SnapshotText.{IsSnapshotText}
+use Rattle.repo_tree.specs.SnapshotText.{IsSnapshotText, snapshot_text}
 use Rattle.repo_tree.specs.declared.configs.Config.{Config}
 use Rattle.repo_tree.specs.declared.snapshots.Snapshot.{Snapshot}
 use Rattle.repo_wire.specs.declared.messages.Ask.{Ask}
@@ -219,11 +219,12 @@ IsPieceLarge facts b es = IsLargeAt b (fed_in es) es
 abbrev pub PieceWent : List Fact → Went → PieceBacking → Trace → Type 0
 PieceWent facts went b es = WentAt facts went b (fed_in es) es
 
--- what puts the snapshot of a tree, of this version
+-- what puts the snapshot of a tree, of this version, as it is written
 pub record PutsSnapshotOf (holding : Holding) (root : Name) (version : ℕ) (step : Step) : Type 0 where
   pub text : List ℕ
   pub snapshot : Snapshot
   pub reads : IsSnapshotText text snapshot
+  pub written : text ≡ snapshot_text snapshot
   pub host : snapshot.host ≡ holding.who.host
   pub time : snapshot.time ≡ holding.who.time
   pub token : snapshot.token ≡ holding.token

@@ -22,7 +22,7 @@ use Rattle.repo_backup.specs.Packings.{IsPacking, IsCovered, IsSealedBy, IsListe
 use Rattle.repo_backup.specs.PartsMade.{parts_by, IsLeft, left_count, open_dir, closed_dir}
 use Rattle.repo_backup.specs.Plans.{AreTreeTextsBelow}
 use Rattle.repo_backup.specs.Standings.{Around, FileCut, Standing, place_at, IsCutSoFar, chunk_items, made_at}
-use Rattle.repo_backup.specs.Waiting.{TakesMore, PacksAll}
+use Rattle.repo_backup.specs.Waiting.{TakesMore, AllGainMore, PacksAll}
 use Rattle.repo_backup.specs.declared.packing.Packing.{Packing}
 use Rattle.repo_backup.specs.declared.packing.Sealing.{Sealing}
 use Rattle.repo_backup.specs.declared.items.FeedError.{FeedError}
@@ -116,17 +116,22 @@ AreTextsAround version (a ∷ above) = AreTreeTextsBelow version a.done × AreTe
 abbrev pub IsCoveredSoFar : List Fact → List layout.Item → Option PieceFile → layout.Item → Type 0
 IsCoveredSoFar known items file item = IsCovered known items item ⊎ Contains (waiting_in file) item
 
--- the work stands here: the packs as they are known; all their blobs were made; and each blob made so far is known or in them, but for the chunks that wait
+-- of the blobs made all but the chunks that wait were packed, one after another
+abbrev pub ArePackedSoFar : List Fact → List layout.Item → Option PieceFile → List layout.Item → Type 0
+ArePackedSoFar known made file items = (first : List layout.Item) × (made ≡ first ++ waiting_in file) × AllGainMore known [] first items
+
+-- the work stands here: the packs as they are known; all their blobs were made, and are in them in that order; and each blob made so far is known or in them, but for the chunks that wait
 pub record PieceStands (w : PieceWork) (known : List Fact) (st : Standing) (sent sealed : List layout.Item) : Type 0 where
   pub packing : IsPacking w.packing known sent sealed
   pub of_made : (item : layout.Item) → Contains (all_items sent sealed w.packing) item → Contains (made_at w.walk.version st) item
   pub at : IsAt w.walk st
   pub cut : IsCutSoFar w.walk.params st
   pub texts : AreTreeTextsBelow w.walk.version st.done × AreTextsAround w.walk.version st.above
+  pub order : ArePackedSoFar known (made_at w.walk.version st) w.walk.file (all_items sent sealed w.packing)
   pub covered : Each (λ item. IsCoveredSoFar known (all_items sent sealed w.packing) w.walk.file item) (made_at w.walk.version st)
 
--- the work makes the parts of the directory that was closed here, some of which are left: the packs as they are known; all their blobs were made; and each
--- blob made before, and of the parts made so far, is known or in them
+-- the work makes the parts of the directory that was closed here, some of which are left: the packs as they are known; all their blobs were made, and are in them in that order; and each blob made
+-- before, and of the parts made so far, is known or in them
 pub record PieceLays (w : PieceWork) (known : List Fact) (st : Standing) (sent sealed : List layout.Item) : Type 0 where
   pub parts : PartsLeft
   pub parts_are : w.parts ≡ Some parts
@@ -143,6 +148,7 @@ pub record PieceLays (w : PieceWork) (known : List Fact) (st : Standing) (sent s
   pub at : IsAt w.walk (open_dir done above)
   pub cut : IsCutSoFar w.walk.params st
   pub texts : AreTreeTextsBelow w.walk.version done × AreTextsAround w.walk.version above
+  pub order : AllGainMore known [] (made_at w.walk.version (open_dir done above) ++ tree_items (part_texts made)) (all_items sent sealed w.packing)
   pub covered : Each (λ item. IsCovered known (all_items sent sealed w.packing) item) (made_at w.walk.version (open_dir done above) ++ tree_items (part_texts made))
 
 -- it stands there, and no part of a directory is left to be made; or it makes the parts of the directory that was closed there

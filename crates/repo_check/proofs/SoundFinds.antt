@@ -26,11 +26,11 @@ use Rattle.repo_store.specs.Stores.{Objects}
 use Rattle.repo_reach.proofs.Leading.{goes_push}
 use Rattle.repo_session.specs.Changes.{AreHeldApart}
 use Rattle.repo_session.specs.Soundness.{IsHeld, IsExactPack, IsSound}
-use Rattle.repo_session.specs.Trees.{IsBroken, IsNeeded, IsNoText, Under}
+use Rattle.repo_session.specs.Trees.{IsBroken, IsNoText, Under}
 use Rattle.repo_session.specs.declared.outcomes.CheckFault.{CheckFault}
 use Rattle.repo_session.specs.declared.outcomes.FaultKind.{FaultKind}
 use Rattle.repo_session.proofs.Descending.{broken_grows, file_spelled, needed_grows, needed_there, root_spells_at, unbroken, under_grows}
-use Rattle.repo_session.proofs.Reaching.{reached_needed}
+use Rattle.repo_session.proofs.Reaching.{IsNeeded, reached_needed}
 use Rattle.repo_check.specs.Answers.{Answer, Gathered, Came, GivesFact, GivesRoot, IsReachedBlob, LiesAt, LiesNowhere, TreesOf}
 use Rattle.repo_check.specs.Checking.{IsFaultOf, IsFound}
 use Rattle.repo_check.specs.Findings.{BlobIs, IsExactOf, IsIllTree, IsMismeasured, Measure, ObjectIs, ReadsAs, TreeIs}

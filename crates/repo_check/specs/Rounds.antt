@@ -88,7 +88,7 @@ KnowsRound k round _ es = ⊥
 abbrev pub TurnsOn : {T : Type 0} → Task → Kind → RoundView T → Turn → Exchange → Trace → Type 0
 TurnsOn task k round (Turn.Ask ask) e es = KnowsRound k round ask (e ∷ es) × May task (e ∷ es) ask
 TurnsOn task k round Turn.All e es = IsWholeRound k round (e ∷ es)
-TurnsOn task k round Turn.Senseless e es = IsSenseless e.ask e.say
+TurnsOn task k round Turn.Senseless e es = IsSenseless (upto task.versions) e.ask e.say
 TurnsOn task k round Turn.Version e es = IsOfOtherVersion (upto task.versions) e.ask e.say
 TurnsOn task k round Turn.Away e es = TellsNothing e.ask e.say
 

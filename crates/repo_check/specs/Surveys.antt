@@ -123,7 +123,7 @@ pub record IsSurveyed (rounds : RoundsView) (walk : WalkView) (es : Trace) : Typ
 abbrev pub SurveysOn : Task → RoundsView → WalkView → Next → Exchange → Trace → Type 0
 SurveysOn task rounds walk (Next.Ask ask) e es = Surveys rounds walk ask (e ∷ es) × May task (e ∷ es) ask
 SurveysOn task rounds walk Next.Over e es = IsSurveyed rounds walk (e ∷ es)
-SurveysOn task rounds walk Next.Senseless e es = IsSenseless e.ask e.say
+SurveysOn task rounds walk Next.Senseless e es = IsSenseless (upto task.versions) e.ask e.say
 SurveysOn task rounds walk Next.Version e es = IsOfOtherVersion (upto task.versions) e.ask e.say
 SurveysOn task rounds walk Next.Away e es = TellsNothing e.ask e.say
 

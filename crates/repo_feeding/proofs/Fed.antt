@@ -47,26 +47,26 @@ so_spent fs h = omega (arith, h, unfed_length fs)
 so_fact : (fs : Trace) (fact : Fact) → ReadFact (unfed fs) fact → ReadFact fs fact
 so_fact fs fact h = record { index = h.index; text = h.text; read = (so_exchanged fs (Ask.Get Kind.Index h.index) (Say.Bytes h.text) h.read.0, h.read.1); says = h.says }
 
-so_bad : (fs : Trace) (ask : Ask) (say : Say) (thing : Thing) (name : Name) → IsBad (unfed fs) ask say thing name → IsBad fs ask say thing name
-so_bad fs (Ask.Range pack offset len) say thing name h = (h.0, h.1, h.2, so_fact fs h.1 h.3, h.4, h.5, h.6, h.7, h.8, h.9)
-so_bad fs Ask.Ticket say thing name h = h
-so_bad fs (Ask.Lock row) say thing name h = h
-so_bad fs (Ask.Refresh t time) say thing name h = h
-so_bad fs Ask.Locks say thing name h = h
-so_bad fs (Ask.List j after) say thing name h = h
-so_bad fs (Ask.Get j n) say thing name h = h
-so_bad fs (Ask.Put t j n x) say thing name h = h
-so_bad fs (Ask.Delete t j n) say thing name h = h
-so_bad fs (Ask.Upgrade t) say thing name h = h
-so_bad fs Ask.Config say thing name h = h
-so_bad fs (Ask.Unlock t) say thing name h = h
+so_bad : (known : ℕ) (fs : Trace) (ask : Ask) (say : Say) (thing : Thing) (name : Name) → IsBad known (unfed fs) ask say thing name → IsBad known fs ask say thing name
+so_bad known fs (Ask.Range pack offset len) say thing name h = (h.0, h.1, h.2, so_fact fs h.1 h.3, h.4, h.5, h.6, h.7, h.8, h.9)
+so_bad known fs Ask.Ticket say thing name h = h
+so_bad known fs (Ask.Lock row) say thing name h = h
+so_bad known fs (Ask.Refresh t time) say thing name h = h
+so_bad known fs Ask.Locks say thing name h = h
+so_bad known fs (Ask.List j after) say thing name h = h
+so_bad known fs (Ask.Get j n) say thing name h = h
+so_bad known fs (Ask.Put t j n x) say thing name h = h
+so_bad known fs (Ask.Delete t j n) say thing name h = h
+so_bad known fs (Ask.Upgrade t) say thing name h = h
+so_bad known fs Ask.Config say thing name h = h
+so_bad known fs (Ask.Unlock t) say thing name h = h
 
 so_caused : (known : ℕ) (fs : Trace) (ask : Ask) (say : Say) (end : End) → CausedBy known (unfed fs) ask say end → CausedBy known fs ask say end
 so_caused known fs ask say End.Busy h = h
 so_caused known fs ask say End.Fenced h = h
 so_caused known fs ask say (End.Missing thing name) h = h
 so_caused known fs ask say (End.Refused code) h = h
-so_caused known fs ask say (End.BadObject thing name) h = so_bad fs ask say thing name h
+so_caused known fs ask say (End.BadObject thing name) h = so_bad known fs ask say thing name h
 so_caused known fs ask say End.BadReply h = h
 so_caused known fs ask say End.Version h = h
 so_caused known fs ask say End.DirectoryTooLarge h = h

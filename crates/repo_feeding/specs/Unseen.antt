@@ -166,26 +166,26 @@ before_so (e ∷ es) = without_so e.ask (e ∷ es) es
 pub spent_so : (es : Trace) → NumbersAreSpent es → NumbersAreSpent (unfed es)
 spent_so es h = omega (arith, h, unfed_length es)
 
-bad_so : (es : Trace) (ask : Ask) (say : Say) (thing : Thing) (name : Name) → IsBad es ask say thing name → IsBad (unfed es) ask say thing name
-bad_so es (Ask.Get k n) say thing name h = h
-bad_so es (Ask.Range pack offset len) say thing name h = (h.0, h.1, h.2, fact_so es h.1 h.3, h.4, h.5, h.6, h.7, h.8, h.9)
-bad_so es Ask.Ticket say thing name h = h
-bad_so es (Ask.Lock row) say thing name h = h
-bad_so es (Ask.Refresh token time) say thing name h = h
-bad_so es (Ask.Unlock token) say thing name h = h
-bad_so es Ask.Locks say thing name h = h
-bad_so es (Ask.List k after) say thing name h = h
-bad_so es (Ask.Put token k n x) say thing name h = h
-bad_so es (Ask.Delete token k n) say thing name h = h
-bad_so es Ask.Config say thing name h = h
-bad_so es (Ask.Upgrade token) say thing name h = h
+bad_so : (known : ℕ) (es : Trace) (ask : Ask) (say : Say) (thing : Thing) (name : Name) → IsBad known es ask say thing name → IsBad known (unfed es) ask say thing name
+bad_so known es (Ask.Get k n) say thing name h = h
+bad_so known es (Ask.Range pack offset len) say thing name h = (h.0, h.1, h.2, fact_so es h.1 h.3, h.4, h.5, h.6, h.7, h.8, h.9)
+bad_so known es Ask.Ticket say thing name h = h
+bad_so known es (Ask.Lock row) say thing name h = h
+bad_so known es (Ask.Refresh token time) say thing name h = h
+bad_so known es (Ask.Unlock token) say thing name h = h
+bad_so known es Ask.Locks say thing name h = h
+bad_so known es (Ask.List k after) say thing name h = h
+bad_so known es (Ask.Put token k n x) say thing name h = h
+bad_so known es (Ask.Delete token k n) say thing name h = h
+bad_so known es Ask.Config say thing name h = h
+bad_so known es (Ask.Upgrade token) say thing name h = h
 
 caused_so : (known : ℕ) (es : Trace) (ask : Ask) (say : Say) (end : End) → CausedBy known es ask say end → CausedBy known (unfed es) ask say end
 caused_so known es ask say End.Busy h = h
 caused_so known es ask say End.Fenced h = h
 caused_so known es ask say (End.Missing thing name) h = h
 caused_so known es ask say (End.Refused code) h = h
-caused_so known es ask say (End.BadObject thing name) h = bad_so es ask say thing name h
+caused_so known es ask say (End.BadObject thing name) h = bad_so known es ask say thing name h
 caused_so known es ask say End.BadReply h = h
 caused_so known es ask say End.Version h = h
 caused_so known es ask say End.DirectoryTooLarge h = h

@@ -1,19 +1,17 @@
 -- Lists that ascend.
-use Rattle.std.proofs.Common.{◌≡◌, ◌++◌, ◌∷◌, ◌∙◌, [], ℕ, zero, suc, List, Some, None, take, slice_get, sym, ap, subst, inl, inr, Contains}
+use Rattle.std.proofs.Common.{◌≡◌, ◌++◌, ◌∷◌, [], ℕ, zero, suc, List, Some, None, take, slice_get, subst, inl, inr, Contains}
 use Rattle.std.specs.List.{AllByRecursion}
 use Rattle.std.specs.List.Sorted.{IsStrictlySortedBy}
 use Rattle.std.specs.declared.cmp.Ordering.{Ordering}
-use Rattle.std.specs.declared.cmp.Ordering.TheVariants.{Less, Equal}
-use Rattle.std.proofs.lemmas.Cmp.{tied_itself}
+use Rattle.std.specs.declared.cmp.Ordering.TheVariants.{Less}
 use Rattle.std.proofs.lemmas.Map.Keys.{sorted_head, sorted_tail}
 use Rattle.std.proofs.lemmas.List.Elements.{Contains-append_left, Contains-append_right, Contains-append_cases}
 use Rattle.repo_name.proofs.Containing.{none_contained, first_contained, later_contained, contained_or, contains_got}
-use Rattle.repo_name.specs.Naming.{name_cmp}
+use Rattle.repo_name.specs.Naming.{name_cmp, Before}
 use Rattle.repo_name.specs.declared.names.Name.{Name}
-use Rattle.repo_index.specs.Order.{names_total}
 
 -- what holds of each element holds of all
-all_each : {X : Type 0} (P : X → Type 0) (xs : List X) → ((x : X) → Contains xs x → P x) → AllByRecursion P xs
+pub all_each : {X : Type 0} (P : X → Type 0) (xs : List X) → ((x : X) → Contains xs x → P x) → AllByRecursion P xs
 all_each P [] h = tt
 all_each P (x ∷ xs) h = (h x (first_contained x xs), all_each P xs (λ y is. h y (later_contained x xs y is)))
 
@@ -54,14 +52,11 @@ less_across {K} c (z ∷ xs) ys h x y left right = elim (contained_or z xs x lef
   | inr more ↦ less_across c xs ys h.1 x y more right
 ]
 
--- what stands at a place of a sorted list doesn't stand before it
-pub unrepeated : (names : List Name) (i : ℕ) (n : Name) → IsStrictlySortedBy name_cmp names → slice_get names i ≡ Some n → ¬ Contains (take i names) n
-unrepeated [] i n sorted at h = absurd (let none : None ≡ Some n = at in cc)
-unrepeated (m ∷ names) zero n sorted at h = none_contained n h
-unrepeated (m ∷ names) (suc i) n sorted at h = elim (contained_or m (take i names) n h) [
-  | inl same ↦
-      let less : name_cmp m n ≡ Less = each_all (λ (y : Name). name_cmp m y ≡ Less) names n (sorted_head name_cmp m names sorted) (contains_got names i n at) in
-      let equal : name_cmp m n ≡ Equal = ap (name_cmp m) (sym same) ∙ tied_itself names_total m in
-      let bad : Less ≡ Equal = sym less ∙ equal in cc bad
-  | inr more ↦ unrepeated names i n (sorted_tail name_cmp m names sorted) at more
+-- what stands at a place of a sorted list is behind all that stands before it
+pub behind_first : (names : List Name) (i : ℕ) (n : Name) → IsStrictlySortedBy name_cmp names → slice_get names i ≡ Some n → (m : Name) → Contains (take i names) m → Before m n
+behind_first [] i n sorted at m h = absurd (let none : None ≡ Some n = at in cc)
+behind_first (l ∷ names) zero n sorted at m h = absurd (none_contained m h)
+behind_first (l ∷ names) (suc i) n sorted at m h = elim (contained_or l (take i names) m h) [
+  | inl same ↦ subst (λ z. Before z n) same (each_all (λ (y : Name). name_cmp l y ≡ Less) names n (sorted_head name_cmp l names sorted) (contains_got names i n at))
+  | inr more ↦ behind_first names i n (sorted_tail name_cmp l names sorted) at m more
 ]

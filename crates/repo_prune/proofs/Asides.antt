@@ -14,7 +14,7 @@ use Rattle.repo_session.proofs.Rolling.{paged_on}
 use Rattle.repo_writing.proofs.Filling.{config_later}
 use Rattle.repo_writing.proofs.PutLemmas.{objects_put_other}
 use Rattle.repo_prune.specs.Pruning.{IsUntouched}
-use Rattle.repo_prune.specs.PruneStates.{Known, HaveRead, HasTarget}
+use Rattle.repo_prune.specs.PruneStates.{Known, HasOnlyListed, HaveRead, HasTarget}
 
 -- a request for a part of a pack, a put, or a delete
 abbrev pub IsAside : Ask → Type 0
@@ -87,6 +87,9 @@ module _ (e : Exchange) (es : Trace) (aside : IsAside e.ask) where
 pub record IsNoChange (ask : Ask) : Type 0 where
   pub puts : (k : Kind) → object_put k ask ≡ []
   pub deletes : DeletesNone ask
+
+pub only_listed : (es : Trace) → HasOnlyListed es → IsUntouched es
+only_listed es h = record { none_put = h.none_put; none_deleted = h.none_deleted }
 
 pub untouched_same : (e : Exchange) (es : Trace) → IsNoChange e.ask → IsUntouched es → IsUntouched (e ∷ es)
 untouched_same e es same h = record {

@@ -26,11 +26,12 @@ use Rattle.repo_session.proofs.Deleting.{DeletesNone, ListsNone, delete_lists_no
 use Rattle.repo_session.proofs.KindReads.{due_snapshot}
 use Rattle.repo_session.specs.Rolls.{IsRolled}
 use Rattle.repo_session.proofs.Receiving.{each_more, is_listed}
-use Rattle.repo_prune.proofs.Ascending.{unrepeated}
+use Rattle.repo_prune.proofs.Ascending.{behind_first}
 use Rattle.repo_prune.proofs.Repacking.{one_taken}
+use Rattle.repo_prune.proofs.Those.{those_are, are_those, those_ascend}
 use Rattle.repo_prune.specs.declared.choices.Choice.{Choice}
 use Rattle.repo_prune.specs.declared.forgets.Forget.{Forget}
-use Rattle.repo_prune.specs.Forgetting.{GoesByPolicy, IsDecided, AreChosen, AreChosenOf, ForgetAllows, forget_rule, forget_task}
+use Rattle.repo_prune.specs.Forgetting.{GoesByPolicy, IsDecided, IsChosen, AreChosen, AreChosenOf, ForgetAllows, forget_rule, forget_task}
 use Rattle.repo_prune.specs.ForgetStates.{Deletes, KnowsForget, KnowsReading, TakesPageByNames}
 use Rattle.repo_prune.specs.Keeping.{Row}
 
@@ -129,10 +130,10 @@ listed_chosen choice rows listed picked es known is same h = record {
   rows = rows;
   decided = known;
   each = λ n. (
-    λ has. let r = (h.each n).0 has in (subst (λ ns. Has ns n) same (contained_has listed n r.0), r.1),
-    λ both. (h.each n).1 (has_contained listed n (subst (λ ns. Has ns n) (sym same) both.0), both.1),
+    λ has. let r = those_are (IsChosen choice rows) listed picked n h has in (subst (λ ns. Has ns n) same (contained_has listed n r.0), r.1),
+    λ both. are_those (IsChosen choice rows) listed picked n h (has_contained listed n (subst (λ ns. Has ns n) (sym same) both.0)) both.1,
   );
-  ascend = h.ascend (subst (λ ns. IsStrictlySortedBy name_cmp ns) (sym same) (ascending_sorted None (names_in Kind.Snapshot es) is.rise.ascend));
+  ascend = those_ascend (IsChosen choice rows) name_cmp listed picked h (subst (λ ns. IsStrictlySortedBy name_cmp ns) (sym same) (ascending_sorted None (names_in Kind.Snapshot es) is.rise.ascend));
 }
 
 -- what is chosen by names, where the last page came
@@ -202,8 +203,8 @@ next_due f who token n es w at d =
           decided = d.chosen.decided;
           among = is.0;
           chosen = is.1;
-          once = λ asked. unrepeated f.chosen.items f.deleted n d.chosen.ascend at (subst (λ ns. Contains ns n) d.deleted asked);
         },
+        λ m asked. behind_first f.chosen.items f.deleted n d.chosen.ascend at m (subst (λ ns. Contains ns m) d.deleted asked),
       );
       knows = inr (token, n, refl, at, d);
     }

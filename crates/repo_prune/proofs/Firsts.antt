@@ -17,7 +17,7 @@ use Rattle.repo_writing.proofs.PutLemmas.{each_contained, asked_put}
 use Rattle.repo_writing.specs.Blobs.{HasFact, AreFactsOnce}
 use Rattle.repo_writing.specs.Putting.{IsIndexed}
 use Rattle.repo_writing.specs.Writing.{AreListed, Listing, packs_of, IsDone}
-use Rattle.repo_prune.specs.Moving.{pair_of_fact}
+use Rattle.repo_prune.specs.Pruning.{pair_of_fact}
 use Rattle.repo_prune.proofs.Pairs.{count, count_append, counted_once, has_counted, once_counted, pairs_of}
 
 -- what an index put before gives is among what those list

@@ -1,5 +1,5 @@
 -- What is chosen of one host.
-use Rattle.std.proofs.Common.{◌≡◌, ◌≢◌, ◌+◌, ◌++◌, ◌∷◌, [], ℕ, Bool, true, false, List, Some, take, slice_get, refl, sym, ap, subst, ◌∙◌, inl, inr, Contains, nat_eq}
+use Rattle.std.proofs.Common.{◌≡◌, ◌≢◌, ◌+◌, ◌++◌, ◌∷◌, ◌↔◌, [], ℕ, Bool, IsTrue, true, false, List, Some, take, slice_get, refl, sym, ap, subst, ◌∙◌, inl, inr, Contains, nat_eq}
 use Rattle.std.specs.Cmp.Lexicographic.{pointwise, bytes_decides}
 use Rattle.std.proofs.lemmas.List.Elements.{Contains-append_left, Contains-append_right, Contains-append_cases}
 use Rattle.repo_name.proofs.Containing.{none_contained, first_contained, contained_or}
@@ -7,9 +7,10 @@ use Rattle.repo_name.specs.declared.names.Name.{Name}
 use Rattle.repo_prune.specs.declared.choices.Choice.{Choice}
 use Rattle.repo_prune.specs.declared.keeping.Policy.{Policy}
 use Rattle.repo_prune.specs.Keeping.{Row, AreKept}
-use Rattle.repo_prune.specs.Forgetting.{AreChosenOf}
+use Rattle.repo_prune.specs.Forgetting.{IsChosen, AreChosenOf}
 use Rattle.repo_prune.specs.inner.Picking.{ArePicked, AreOfOthers}
 use Rattle.repo_prune.proofs.Repacking.{one_taken}
+use Rattle.repo_prune.proofs.Those.{those_alike, those_of_those}
 
 -- bytes that aren't others are the same
 stable : (a b : List ℕ) → ((a ≢ b) → ⊥) → a ≡ b
@@ -63,18 +64,16 @@ module _ (host : List ℕ) (rows : List Row) (names : List Name) (i : ℕ) (row 
 -- those of this host of which the policy keeps none
 pub chosen_by_host : (host : List ℕ) (policy : Policy) (rows : List Row) (kept others listed gone picked : List Name) → AreKept policy rows kept → AreOfOthers host rows others → ArePicked listed kept false gone → ArePicked gone others false picked
     → AreChosenOf (Choice.KeepOf host policy) rows listed picked
-chosen_by_host host policy rows kept others listed gone picked k o first last = record {
-  each = λ n. (
-    λ has. let b = (last.each n).0 has in let a = (first.each n).0 b.0 in (
-      a.0,
-      λ row among named. (
-        stable row.1.host host (λ other. let never = b.1.1 ((o n).1 (row, among, named, other)) in absurd (cc)),
-        λ is. let never = a.1.1 ((k.each n).1 (row, among, named, is)) in absurd (cc),
+chosen_by_host host policy rows kept others listed gone picked k o first last =
+    let Unkept : Name → Type 0 = λ n. IsTrue false ↔ Contains kept n in
+    let Unlike : Name → Type 0 = λ n. IsTrue false ↔ Contains others n in
+    those_alike (λ n. Unkept n × Unlike n) (IsChosen (Choice.KeepOf host policy) rows) (λ n. (
+      λ both row among named. (
+        stable row.1.host host (λ other. let never = both.1.1 ((o n).1 (row, among, named, other)) in absurd (cc)),
+        λ is. let never = both.0.1 ((k.each n).1 (row, among, named, is)) in absurd (cc),
       ),
-    ),
-    λ both.
-        let unkept = (first.each n).1 (both.0, (λ never. absurd (cc), λ has. let r = (k.each n).0 has in absurd ((both.1 r.0 r.1 r.2).1 r.3))) in
-        (last.each n).1 (unkept, (λ never. absurd (cc), λ has. let r = (o n).0 has in absurd (r.3 (both.1 r.0 r.1 r.2).0))),
-  );
-  ascend = λ sorted. last.ascend (first.ascend sorted);
-}
+      λ chosen. (
+        (λ never. absurd (cc), λ has. let r = (k.each n).0 has in absurd ((chosen r.0 r.1 r.2).1 r.3)),
+        (λ never. absurd (cc), λ has. let r = (o n).0 has in absurd (r.3 (chosen r.0 r.1 r.2).0)),
+      ),
+    )) listed picked (those_of_those Unkept Unlike listed gone picked first last)

@@ -1,3 +1,4 @@
+pub mod Those
 pub mod Picks
 pub mod Hosts
 pub mod Choosing
@@ -5,6 +6,7 @@ pub mod Going
 pub mod ForgetRuns
 pub mod Leaving
 pub mod Ascending
+pub mod Staying
 pub mod Planning
 pub mod Covering
 pub mod TreeReading
@@ -23,6 +25,7 @@ pub mod PruneTrees
 pub mod PruneDeletes
 pub mod Pairs
 pub mod Firsts
+pub mod Unsent
 pub mod PruneMoves
 pub mod PrunePacks
 pub mod UpgradeRuns

@@ -24,7 +24,7 @@ use Rattle.repo_index.specs.declared.facts.PackFacts.{PackFacts}
 use Rattle.repo_writing.specs.Blobs.{HasItem, AreOnce, HasFact, AreFactsOnce}
 use Rattle.repo_writing.specs.Writing.{Put, IsPut, items_of}
 use Rattle.repo_session.specs.Traces.{Each}
-use Rattle.repo_prune.specs.Moving.{Pair, pair_of_item, pair_of_fact}
+use Rattle.repo_prune.specs.Pruning.{Pair, pair_of_item, pair_of_fact}
 
 -- ---- one pair
 

@@ -12,51 +12,22 @@ use Rattle.std.proofs.lemmas.Cmp.{eq_by_cmp_equiv}
 use Rattle.std.proofs.lemmas.List.Elements.{Contains-append_left, Contains-append_right, Contains-append_cases}
 use Rattle.repo_index.specs.Order.{names_total}
 use Rattle.repo_index.proofs.OrderLemmas.{names_exact}
-use Rattle.std.proofs.lemmas.List.Kept.{IsStrictlySortedBy-filter}
 use Rattle.repo_name.specs.Naming.{name_cmp}
 use Rattle.repo_name.specs.declared.names.Name.{Name}
 use Rattle.repo_prune.specs.declared.choices.Choice.{Choice}
 use Rattle.repo_prune.specs.declared.keeping.Policy.{Policy}
 use Rattle.repo_prune.specs.Keeping.{Row, AreKept}
-use Rattle.repo_prune.specs.Forgetting.{AreChosenOf}
+use Rattle.repo_prune.specs.Forgetting.{IsChosen, AreChosenOf}
 use Rattle.repo_prune.specs.inner.Picking.{ArePicked}
-use Rattle.repo_name.proofs.Containing.{none_contained, first_contained, later_contained, contained_or}
-
-module _ {A : Type 0} (p : A → Bool) where
-  more_if : (b : Bool) (y x : A) (xs : List A) → (p x ≡ true → Contains xs x → Contains (filter p xs) x) → p y ≡ b → p x ≡ true → Contains (y ∷ xs) x → Contains (cond b (y ∷ filter p xs) (filter p xs)) x
-  more_if true y x xs rest q passes has = elim (contained_or y xs x has) [
-    | inl same ↦ subst (λ z. Contains (z ∷ filter p xs) x) (sym same) (first_contained x (filter p xs))
-    | inr more ↦ later_contained y (filter p xs) x (rest passes more)
-  ]
-  more_if false y x xs rest q passes has = elim (contained_or y xs x has) [
-    | inl same ↦ let fails : p x ≡ false = subst (λ z. p z ≡ false) same q in absurd (cc)
-    | inr more ↦ rest passes more
-  ]
-
-  pub passed : (xs : List A) (x : A) → p x ≡ true → Contains xs x → Contains (filter p xs) x
-  passed [] x passes has = has
-  passed (y ∷ xs) x passes has = more_if (p y) y x xs (λ q h. passed xs x q h) refl passes has
-
-  less_if : (b : Bool) (y x : A) (xs : List A) → (Contains (filter p xs) x → Contains xs x × (p x ≡ true)) → p y ≡ b → Contains (cond b (y ∷ filter p xs) (filter p xs)) x → Contains (y ∷ xs) x × (p x ≡ true)
-  less_if true y x xs rest q has = elim (contained_or y (filter p xs) x has) [
-    | inl same ↦ (subst (λ z. Contains (z ∷ xs) x) (sym same) (first_contained x xs), subst (λ z. p z ≡ true) same q)
-    | inr more ↦ let r = rest more in (later_contained y xs x r.0, r.1)
-  ]
-  less_if false y x xs rest q has = let r = rest has in (later_contained y xs x r.0, r.1)
-
-  pub was_there : (xs : List A) (x : A) → Contains (filter p xs) x → Contains xs x × (p x ≡ true)
-  was_there [] x has = absurd (none_contained x has)
-  was_there (y ∷ xs) x has = less_if (p y) y x xs (λ h. was_there xs x h) refl has
+use Rattle.repo_name.proofs.Containing.{none_contained, first_contained, contained_or}
+use Rattle.repo_prune.proofs.Those.{those_alike, those_passed}
 
 -- what passes the test of a set stands among its names as it is wanted to
 pub picked_by_set : (held : Name → Bool) (listed names : List Name) (among : Bool) → ((n : Name) → IsTrue (held n) ↔ Contains names n) → ArePicked listed names among (filter (λ n. beq (held n) among) listed)
-picked_by_set held listed names among holds = record {
-  each = λ n. (
-    λ has. let r = was_there (λ m. beq (held m) among) listed n has in (r.0, (λ wanted. (holds n).0 (same_true (held n) among r.1 wanted), λ there. true_same (held n) among r.1 ((holds n).1 there))),
-    λ both. passed (λ m. beq (held m) among) listed n (same_both (held n) among (λ is. (holds n).0 is) (λ is. (holds n).1 is) both.1) both.0,
-  );
-  ascend = λ sorted. IsStrictlySortedBy-filter name_cmp (λ m. beq (held m) among) listed sorted;
-}
+picked_by_set held listed names among holds = those_passed (λ (n : Name). IsTrue among ↔ Contains names n) (λ n. beq (held n) among) (λ n. (
+  λ passed. (λ wanted. (holds n).0 (same_true (held n) among passed wanted), λ there. true_same (held n) among passed ((holds n).1 there)),
+  λ both. same_both (held n) among (λ is. (holds n).0 is) (λ is. (holds n).1 is) both,
+)) listed
   where
     same_true : (a b : Bool) → beq a b ≡ true → b ≡ true → a ≡ true
     same_true true b is wanted = refl
@@ -78,20 +49,14 @@ picked_by_set held listed names among holds = record {
 
 -- those of the names that were given
 pub chosen_by_names : (names : List Name) (rows : List Row) (listed picked : List Name) → ArePicked listed names true picked → AreChosenOf (Choice.Names names) rows listed picked
-chosen_by_names names rows listed picked h = record {
-  each = λ n. (λ has. let r = (h.each n).0 has in (r.0, r.1.0 refl), λ both. (h.each n).1 (both.0, (λ _. both.1, λ _. refl)));
-  ascend = h.ascend;
-}
+chosen_by_names names rows listed picked h = those_alike (λ (n : Name). IsTrue true ↔ Contains names n) (λ n. Contains names n) (λ n. (λ is. is.0 refl, λ among. (λ _. among, λ _. refl))) listed picked h
 
 -- those of which the policy keeps none
 pub chosen_by_policy : (policy : Policy) (rows : List Row) (kept listed picked : List Name) → AreKept policy rows kept → ArePicked listed kept false picked → AreChosenOf (Choice.Keep policy) rows listed picked
-chosen_by_policy policy rows kept listed picked k h = record {
-  each = λ n. (
-    λ has. let r = (h.each n).0 has in (r.0, λ row among named is. let never = r.1.1 ((k.each n).1 (row, among, named, is)) in absurd (cc)),
-    λ both. (h.each n).1 (both.0, (λ never. absurd (cc), λ has. let r = (k.each n).0 has in absurd (both.1 r.0 r.1 r.2 r.3))),
-  );
-  ascend = h.ascend;
-}
+chosen_by_policy policy rows kept listed picked k h = those_alike (λ (n : Name). IsTrue false ↔ Contains kept n) (IsChosen (Choice.Keep policy) rows) (λ n. (
+  λ un row among named is. (let never = un.1 ((k.each n).1 (row, among, named, is)) in absurd (cc)),
+  λ chosen. (λ never. absurd (cc), λ has. let r = (k.each n).0 has in absurd (chosen r.0 r.1 r.2 r.3)),
+)) listed picked h
 
 -- ---- sets
 

@@ -41,12 +41,13 @@ use Rattle.repo_prune.specs.declared.prunes.Stage.{Stage}
 use Rattle.repo_prune.specs.declared.relisting.Relisting.{Relisting}
 use Rattle.repo_prune.proofs.Asides.{aside_lists, indexed_same}
 use Rattle.repo_prune.proofs.Repacking.{one_taken}
-use Rattle.repo_prune.proofs.Ascending.{unrepeated}
+use Rattle.repo_prune.proofs.Those.{those_are, are_those, those_ascend}
+use Rattle.repo_prune.proofs.Ascending.{behind_first}
 use Rattle.repo_prune.proofs.Choosing.{ascending_sorted, has_contained, contained_has}
 
 -- ---- what stays over a delete
 
-pub covered_later : (e : Exchange) (es : Trace) (rows : List Rattle.repo_prune.specs.Keeping.Row) (packs : List PackFacts) → AreCovered es rows packs → AreCovered (e ∷ es) rows packs
+unfoldable pub covered_later : (e : Exchange) (es : Trace) (rows : List Rattle.repo_prune.specs.Keeping.Row) (packs : List PackFacts) → AreCovered es rows packs → AreCovered (e ∷ es) rows packs
 covered_later e es rows packs h = record {
   texts = h.texts;
   trees = record { received = λ x among. received_grows e es _ x (h.trees.received x among); one = h.trees.one };
@@ -150,11 +151,14 @@ among_or : (names : List Name) (n : Name) → Contains names n ⊎ (¬ Contains 
 among_or [] n = inr (λ h. none_contained n h)
 among_or (m ∷ names) n = among_step m names n (is_eq (name_cmp m n)) refl (among_or names n)
 
--- what isn't among them
-not_among : (names : List Name) (n : Name) → (IsTrue false ↔ Contains names n) → ¬ Contains names n
+-- a name isn't among them
+abbrev IsUnlike : List Name → Name → Type 0
+IsUnlike names n = IsTrue false ↔ Contains names n
+
+not_among : (names : List Name) (n : Name) → IsUnlike names n → ¬ Contains names n
 not_among names n h has = let never = h.1 has in absurd (cc)
 
-is_not_among : (names : List Name) (n : Name) → ¬ Contains names n → IsTrue false ↔ Contains names n
+is_not_among : (names : List Name) (n : Name) → ¬ Contains names n → IsUnlike names n
 is_not_among names n none = (λ never. absurd (cc), λ has. absurd (none has))
 
 module _ (k : Known) (r : Relisting) (d : Deleting) (es : Trace) (h : HasListed k r es) (b : BeginsDeleting r k.indexes k.packs d) where
@@ -213,21 +217,21 @@ module _ (k : Known) (r : Relisting) (d : Deleting) (es : Trace) (h : HasListed 
           covered = p.covered;
         };
         all = record { complete = p.read.packs.complete; rise = p.read.packs.rise };
-        indexes_old = λ n among. let is = (b.indexes_are.each n).0 among in (lists_index n is.0, λ asked. not_among r.indexes.items n is.1 (put_named n asked));
+        indexes_old = λ n among. let is = those_are (IsUnlike r.indexes.items) k.indexes d.indexes.items n b.indexes_are among in (lists_index n is.0, λ asked. not_among r.indexes.items n is.1 (put_named n asked));
         indexes_all = λ n lists. elim (among_or r.indexes.items n) [
           | inl put ↦ inl (named_put n put)
-          | inr none ↦ inr ((b.indexes_are.each n).1 (index_listed n lists, is_not_among r.indexes.items n none))
+          | inr none ↦ inr (are_those (IsUnlike r.indexes.items) k.indexes d.indexes.items n b.indexes_are (index_listed n lists) (is_not_among r.indexes.items n none))
         ];
         packs_old = λ n among.
-            let is = (b.packs_are.each n).0 among in
+            let is = those_are (IsUnlike pack_names) k.packs d.packs.items n b.packs_are among in
             let none : ¬ ListsPack r.packs.items n = λ l. not_among pack_names n is.1 (subst (λ m. Contains pack_names m) l.2 (contains_map (λ (listed : PackFacts). listed.pack) r.packs.items l.0 l.1)) in
             record { among = lists_pack n is.0; unput = unput_pack n none; unlisted = none };
         packs_all = λ n lists. elim (among_or pack_names n) [
           | inl listed ↦ let found = map_contains (λ (q : PackFacts). q.pack) r.packs.items n listed in inl (found.0, found.1, found.2)
-          | inr none ↦ inr ((b.packs_are.each n).1 (pack_listed n lists, is_not_among pack_names n none))
+          | inr none ↦ inr (are_those (IsUnlike pack_names) k.packs d.packs.items n b.packs_are (pack_listed n lists) (is_not_among pack_names n none))
         ];
-        indexes_ascend = b.indexes_are.ascend (ascending_sorted None k.indexes (subst (NamesAscend None) p.read.listed p.read.indexes.listed.rise.ascend));
-        packs_ascend = b.packs_are.ascend (ascending_sorted None k.packs (subst (NamesAscend None) p.read.packs.listed p.read.packs.rise.ascend));
+        indexes_ascend = those_ascend (IsUnlike r.indexes.items) name_cmp k.indexes d.indexes.items b.indexes_are (ascending_sorted None k.indexes (subst (NamesAscend None) p.read.listed p.read.indexes.listed.rise.ascend));
+        packs_ascend = those_ascend (IsUnlike pack_names) name_cmp k.packs d.packs.items b.packs_are (ascending_sorted None k.packs (subst (NamesAscend None) p.read.packs.listed p.read.packs.rise.ascend));
         blobs = r.counts.blobs;
         counted = subst (λ m. AreCounted es r.counts.blobs m) (sym b.bytes) counted;
       }
@@ -260,7 +264,7 @@ module _ (k : Known) (d : Deleting) (who : Asker) (token : Token) (es : Trace) (
       record {
         work = tt;
         may = (w, refl);
-        allowed = record { packs = c.packs; settled = c.may.settled; among = old.0; unput = old.1; once = λ asked. unrepeated d.indexes.items d.indexes_gone n c.may.indexes_ascend at (subst (λ ns. Contains ns n) c.indexes_deleted asked) };
+        allowed = record { packs = c.packs; settled = c.may.settled; among = old.0; unput = old.1; behind = λ m asked. behind_first d.indexes.items d.indexes_gone n c.may.indexes_ascend at m (subst (λ ns. Contains ns m) c.indexes_deleted asked) };
         knows = (at, c);
       }
 
@@ -270,7 +274,7 @@ module _ (k : Known) (d : Deleting) (who : Asker) (token : Token) (es : Trace) (
       record {
         work = tt;
         may = (w, refl);
-        allowed = record { packs = c.packs; settled = c.may.settled; replaced = replaced all; all = c.may.all; among = old.among; unput = old.unput; unlisted = old.unlisted; once = λ asked. unrepeated d.packs.items d.packs_gone n c.may.packs_ascend at (subst (λ ns. Contains ns n) c.deleted asked) };
+        allowed = record { packs = c.packs; settled = c.may.settled; replaced = replaced all; all = c.may.all; among = old.among; unput = old.unput; unlisted = old.unlisted; behind = λ m asked. behind_first d.packs.items d.packs_gone n c.may.packs_ascend at m (subst (λ ns. Contains ns m) c.deleted asked) };
         knows = (all, at, c);
       }
 

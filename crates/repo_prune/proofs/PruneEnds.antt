@@ -31,7 +31,8 @@ use Rattle.repo_session.specs.Traces.{Trace, Object, WasAsked, Lists, ReadFact}
 use Rattle.repo_session.specs.Trees.{HasRoot, IsUnindexed}
 use Rattle.repo_session.proofs.Concluding.{calm_of, either, ends_well, known, puts_none}
 use Rattle.repo_name.proofs.Containing.{none_contained}
-use Rattle.repo_session.proofs.Descending.{under_grows, needed_grows, broken_grows, needed_there, unbroken}
+use Rattle.repo_session.proofs.Descending.{under_grows, reach_grows, broken_grows, needed_there, unbroken}
+use Rattle.repo_session.proofs.Reaching.{reached_needed}
 use Rattle.repo_session.proofs.Enumerating.{listed_or_put}
 use Rattle.repo_session.proofs.Growing.{Led, Shares, led}
 use Rattle.repo_session.proofs.Spoken.{held_agree}
@@ -106,14 +107,14 @@ module _ (who : Asker) (from : Store) (fit : IsFit from) (agree : Agree (IsHeld 
   no_unindexed : (snapshot : Name) (thing : Thing) (name : Name) → IsUnindexed (trace_of talk) snapshot thing name → ⊥
   no_unindexed snapshot thing name u =
       let s = root_spelled snapshot u.version u.root u.found in
-      let b = needed_there u.version B agree u.root s.0 u.kind name s.1 (needed_grows u.version (Received (trace_of talk)) B received_held u.root u.kind name u.needed) in
+      let b = needed_there u.version B agree u.root s.0 u.kind name s.1 (reached_needed u.version B u.root u.kind name (reach_grows u.version (Received (trace_of talk)) B received_held u.root u.kind name u.reached)) in
       let held = b.among in
       let now : to.objects Kind.Index held.index ≡ Some held.text = shares.kept Kind.Index held.index held.text held.listed in
       let listed : Lists (trace_of talk) Kind.Index held.index = ⊎_elim (λ l. l) (λ p. absurd (unput p.0 Kind.Index held.index p.1 p.2))
       (listed_or_put (AskedToPut (trace_of talk)) (prune_task who) PruneAllows PruneGives Kind.Index held.index (trace_of talk) to.objects held.text o (seen_run from talk to h) u.indexes.listed now) in
       let read = u.indexes.each held.index listed in
-      let one : held.text ≡ read.0 = same_Some held.text read.0 (sym held.listed ∙ first Kind.Index held.index read.0 (shares.got Kind.Index held.index read.0 read.1.0)) in
-      let fact : ReadFact (trace_of talk) held.fact = record { index = held.index; text = read.0; read = read.1; says = subst (λ (x : List ℕ). Says x held.fact) one held.says } in
+      let one : held.text ≡ read.0 = same_Some held.text read.0 (sym held.listed ∙ first Kind.Index held.index read.0 (shares.got Kind.Index held.index read.0 read.2.0)) in
+      let fact : ReadFact (trace_of talk) held.fact = record { index = held.index; text = read.0; read = read.2; says = subst (λ (x : List ℕ). Says x held.fact) one held.says } in
       u.ungiven (held.fact, fact, held.of_kind, held.named ∙ b.named)
 
 module _ (who : Asker) (from : Store) (fit : IsFit from) (agree : Agree (IsHeld from.objects) (IsHeld from.objects)) where

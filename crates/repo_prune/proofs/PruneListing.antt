@@ -1,5 +1,5 @@
 -- What is known while a prune lists and reads.
-use Rattle.std.proofs.Common.{◌≡◌, ◌≢◌, ◌∷◌, [], ℕ, Bool, true, false, cond, List, Option, refl, sym, ap, subst, inl, ◌∙◌}
+use Rattle.std.proofs.Common.{◌≡◌, ◌≢◌, ◌∷◌, [], ℕ, Bool, true, false, cond, List, Option, refl, sym, ap, subst, inl, inr, ◌∙◌}
 use Rattle.repo_name.specs.declared.kinds.Kind.{Kind}
 use Rattle.repo_name.specs.declared.names.Name.{Name}
 use Rattle.repo_name.specs.declared.tokens.Token.{Token}
@@ -12,20 +12,20 @@ use Rattle.repo_session.specs.Askers.{Asker}
 use Rattle.repo_session.specs.Catalogs.{Catalogs, IsAll}
 use Rattle.repo_session.specs.Jobs.{MayAsk, MayStep}
 use Rattle.repo_session.specs.Listings.{IsSnapshotListing}
-use Rattle.repo_session.specs.Order.{ReadsKind, last_of}
+use Rattle.repo_session.specs.Order.{Task, opened, ReadsKind, last_of}
 use Rattle.repo_session.specs.Readings.{IsAskDue, KnowsIndexes, KnowsRoll}
 use Rattle.repo_session.specs.Rolls.{IsPaged, IsRolled}
-use Rattle.repo_session.specs.Traces.{Exchange, Trace, same_kind, page_names, is_last_page, object_got}
+use Rattle.repo_session.specs.Traces.{Exchange, Trace, WasAsked, same_kind, page_names, is_last_page, object_got}
 use Rattle.repo_session.proofs.Cataloguing.{are_indexed, catalog_on, rolled_on}
 use Rattle.repo_session.proofs.Rolling.{same_self}
 use Rattle.repo_session.proofs.Deleting.{ListsNone, listing_stays}
 use Rattle.repo_session.specs.Deletions.{NoneDeleted}
-use Rattle.repo_prune.specs.Pruning.{IsUntouched, prune_rule, prune_task, PruneAllows}
-use Rattle.repo_prune.specs.PruneStates.{Known, HaveRead, HasTarget, AreUnlisted, ReadsSnapshots, ReadsIndexes, ListsPacks, IsListingOf, KnowsPrune, KnowsStage, IsNextStep, KnowsAsMuch, StepsFrom, known_in}
+use Rattle.repo_prune.specs.Pruning.{prune_rule, prune_task, PruneAllows}
+use Rattle.repo_prune.specs.PruneStates.{Known, HasOnlyListed, HaveRead, HasTarget, AreUnlisted, ReadsSnapshots, ReadsIndexes, ListsPacks, IsListingOf, KnowsPrune, KnowsStage, IsNextStep, KnowsAsMuch, StepsFrom, known_in}
 use Rattle.repo_prune.specs.declared.prunes.Onward.{Onward}
 use Rattle.repo_prune.specs.declared.prunes.Prune.{Prune}
 use Rattle.repo_prune.specs.declared.prunes.Stage.{Stage}
-use Rattle.repo_prune.proofs.Asides.{IsNoChange, untouched_same, target_later}
+use Rattle.repo_prune.proofs.Asides.{IsNoChange, only_listed, untouched_same, target_later}
 
 -- ---- another kind
 
@@ -175,8 +175,21 @@ snapshots_allowed es ask h none = kind_allowed Kind.Snapshot es ask (λ is. absu
 pub indexes_allowed : (es : Trace) (ask : Ask) → ReadsKind Kind.Index es ask → NoneDeleted es → PruneAllows es ask
 indexes_allowed es ask h none = kind_allowed Kind.Index es ask (λ is. absurd (cc)) h none
 
-pub listing_untouched : (j : Kind) (e : Exchange) (es : Trace) → IsListingOf j e.ask → IsUntouched es → IsUntouched (e ∷ es)
-listing_untouched j e es h u = untouched_same e es (listing_same j e.ask h) u
+pub listing_untouched : (j : Kind) (e : Exchange) (es : Trace) → IsListingOf j e.ask → HasOnlyListed es → HasOnlyListed (e ∷ es)
+listing_untouched j e es h listed =
+    let u = untouched_same e es (listing_same j e.ask h) (only_listed es listed) in
+    record {
+      none_put = u.none_put;
+      none_deleted = u.none_deleted;
+      none_ranged = λ pack offset len asked. elim asked [ inl now ↦ subst (IsListingOf j) now h | inr before ↦ listed.none_ranged pack offset len before ];
+    }
+
+-- nor where the config was just read
+pub opened_unranged : (task : Task) (token : Token) (text : List ℕ) (pack : Name) (offset len : ℕ) → ¬ WasAsked (opened task token text) (Ask.Range pack offset len)
+opened_unranged task token text pack offset len (inl now) = absurd (cc)
+opened_unranged task token text pack offset len (inr (inl now)) = absurd (cc)
+opened_unranged task token text pack offset len (inr (inr (inl now))) = absurd (cc)
+opened_unranged task token text pack offset len (inr (inr (inr none))) = none
 
 pub roll_listing : (roll : Roll) (ask : Ask) (es : Trace) → KnowsRoll roll ask es → IsListingOf roll.kind ask
 roll_listing roll Ask.Ticket es h = absurd h
@@ -381,9 +394,9 @@ pack_page j who es ask is due h =
 
 -- ---- all packs are listed
 
-pub packs_listed : (j : Prune) (packs : Roll) (e : Exchange) (es : Trace) → IsListingOf Kind.Pack e.ask → IsUntouched es → IsSnapshotListing es j.snapshots.rows.items → Catalogs j.catalog true es → IsAll j.catalog
+pub packs_listed : (j : Prune) (packs : Roll) (e : Exchange) (es : Trace) → IsListingOf Kind.Pack e.ask → HasOnlyListed es → IsSnapshotListing es j.snapshots.rows.items → Catalogs j.catalog true es → IsAll j.catalog
     → HasTarget es j.target.bytes → IsPaged Kind.Pack packs.names.items true (e ∷ es)
-    → HaveRead (record { rows = j.snapshots.rows.items; indexes = j.catalog.roll.names.items; facts = j.catalog.lookup; packs = packs.names.items; target = j.target.bytes }) (e ∷ es) × IsUntouched (e ∷ es)
+    → HaveRead (record { rows = j.snapshots.rows.items; indexes = j.catalog.roll.names.items; facts = j.catalog.lookup; packs = packs.names.items; target = j.target.bytes }) (e ∷ es) × HasOnlyListed (e ∷ es)
 packs_listed j packs e es listing untouched rows catalog all target paged =
     let c = catalog_same Kind.Pack e es j.catalog true refl listing catalog in (
       record {

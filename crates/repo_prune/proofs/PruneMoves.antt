@@ -1,16 +1,21 @@
 -- What is known while a prune moves blobs, and once it did.
-use Rattle.std.proofs.Common.{◌≡◌, ◌≢◌, ◌≤◌, ◌⊎◌, ◌++◌, ◌∷◌, [], ℕ, List, Some, length, map, take, slice_get, refl, sym, ap, subst, inl, inr, ◌∙◌, Contains, append-nil, append_assoc}
+use Rattle.std.proofs.Common.{arith, Vec, Global, ◌+◌, ◌≡◌, ◌≢◌, ◌≤◌, ◌⊎◌, ◌↔◌, ◌++◌, ◌∷◌, [], ℕ, List, Some, length, map, take, slice_get, refl, sym, ap, subst, inl, inr, ◌∙◌, Contains, append-nil, append_assoc}
+use Rattle.std.specs.List.{flat_map}
+use Rattle.std.specs.List.Sorted.{IsStrictlySortedBy}
 use Rattle.std.proofs.lemmas.List.{map-append, take_all}
-use Rattle.std.proofs.lemmas.List.Elements.{Contains-append_right}
+use Rattle.std.proofs.lemmas.List.Elements.{Contains-append_right, Contains-append_cases}
 use Rattle.std.proofs.lemmas.Option.{same_Some}
-use Rattle.repo_name.proofs.Containing.{contains_got, contains_map, map_contains}
+use Rattle.repo_name.proofs.Containing.{none_contained, contained_or, contains_got, contains_map, map_contains}
+use Rattle.repo_name.specs.Naming as naming
+use Rattle.repo_name.specs.declared.kinds.BlobKind.TheVariants.{Tree}
 use Rattle.repo_name.specs.declared.kinds.Kind.{Kind}
 use Rattle.repo_name.specs.declared.names.Name.{Name}
 use Rattle.repo_name.specs.declared.tokens.Token.{Token}
-use Rattle.repo_pack.specs.PackLayout.{Item}
-use Rattle.repo_pack.specs.PackWriting.{IsDue}
+use Rattle.repo_pack.specs.PackLayout.{Item, IsTruePack}
+use Rattle.repo_pack.specs.PackWriting.{IsDue, IsOpen}
 use Rattle.repo_pack.specs.declared.writers.Sealed.{Sealed}
 use Rattle.repo_index.specs.IndexText.{facts_in}
+use Rattle.repo_index.specs.Order.{place_first}
 use Rattle.repo_index.specs.declared.facts.Fact.{Fact}
 use Rattle.repo_index.specs.declared.facts.PackFacts.{PackFacts}
 use Rattle.repo_wire.specs.declared.messages.Ask.{Ask}
@@ -20,32 +25,33 @@ use Rattle.repo_session.specs.Askers.{Asker}
 use Rattle.repo_session.specs.Jobs.{MayAsk}
 use Rattle.repo_session.specs.Order.{IsWorking}
 use Rattle.repo_session.specs.Blobs.{range_of}
-use Rattle.repo_session.specs.Traces.{Exchange, Trace, object_put, ReadFact}
+use Rattle.repo_session.specs.Traces.{Each, Exchange, Trace, object_put, ReadFact}
 use Rattle.repo_session.proofs.Cataloguing.{fact_stays}
 use Rattle.repo_session.proofs.Deleting.{DeletesNone, none_deleted_on}
 use Rattle.repo_writing.proofs.BlobLemmas.{has_either, once_apart, once_behind}
 use Rattle.repo_writing.proofs.PutLemmas.{objects_put_other}
-use Rattle.repo_writing.proofs.Writings.{none_put, packs_stay, pack_sent, pack_done, items_push, put_of, is_put, packed_one, one_packed}
+use Rattle.repo_writing.proofs.Writings.{none_put, packs_stay, pack_sent, pack_done, items_push, put_of, is_put, packed_one, one_packed, each_alone}
 use Rattle.repo_writing.specs.Blobs.{HasItem, AreOnce, AreFactsOnce}
 use Rattle.repo_writing.specs.Filling.{WasOpen, IsPromptPack, IsFullPack}
-use Rattle.repo_writing.specs.Putting.{IsPacked}
+use Rattle.repo_writing.specs.Putting.{IsPacked, Packed}
 use Rattle.repo_writing.specs.Writing.{Put, IsPut, items_of, ArePut, AreCounts}
 use Rattle.repo_writing.specs.declared.counts.Counts.{Counts}
 use Rattle.repo_writing.specs.declared.targets.Target.{Target}
-use Rattle.repo_prune.specs.Moving.{IsMoving, AwaitsBlob, MovesOn, Pair, SendsPack, pair_of_fact, pair_of_item}
-use Rattle.repo_prune.specs.PruneStates.{Known, ArePlanned, HasPlanned, IsRepacking, KnowsMove, HasMoved, KnowsStage, IsNextStep, MovesTo}
-use Rattle.repo_prune.specs.Pruning.{prune_rule, prune_task, HasToMove, IsNeededBy, AreLastMoved}
+use Rattle.repo_prune.specs.Moving.{IsMoving, AwaitsBlob, MovesOn, SendsPack}
+use Rattle.repo_prune.specs.PruneStates.{Known, AreReceived, HaveCome, ArePlanned, HasPlanned, IsRepacking, KnowsMove, HasMoved, KnowsStage, IsNextStep, MovesTo}
+use Rattle.repo_prune.specs.Pruning.{prune_rule, prune_task, HasToMove, IsNeededBy, MustMoveBy, AreLastMoved, AreNextMoved, WasReceived, AreFewParts, parts_in, IsNextMove, Pair, pair_of_fact, pair_of_item}
 use Rattle.repo_prune.specs.declared.moving.Moved.{Moved}
 use Rattle.repo_prune.specs.declared.moving.Moving.{Moving}
 use Rattle.repo_prune.specs.declared.prunes.Stage.{Stage}
-use Rattle.repo_prune.proofs.Asides.{IsAside, read_same, fact_same}
+use Rattle.repo_prune.proofs.Asides.{IsAside, read_same}
 use Rattle.repo_pack.specs.PackLayout.{IsBlobLength}
 use Rattle.repo_session.specs.declared.outcomes.End.{End}
 use Rattle.repo_session.specs.Ends.{blob_thing, IsBad, IsBadBlob, IsCause}
 use Rattle.repo_prune.proofs.Pairs.{moved_once}
 use Rattle.repo_prune.proofs.PruneTrees.{read_within}
 use Rattle.repo_prune.proofs.Relistings.{in_first}
-use Rattle.repo_prune.proofs.Repacking.{none_awaited}
+use Rattle.repo_prune.proofs.Repacking.{none_awaited, one_taken}
+use Rattle.repo_prune.proofs.Unsent.{unsent}
 use Rattle.repo_session.proofs.Descending.{received_grows}
 
 -- ---- what stays over a part of a pack or a put
@@ -58,13 +64,70 @@ planned_later k kept moves e es aside h = record {
   given = h.given;
   just = h.just;
   once = h.once;
-  kept_are = λ listed among fact.
-      let is = h.kept_are listed among fact in
-      (λ has. let b = is.0 has in (fact_stays e es fact b.0, b.1), λ both. is.1 (fact_same e es aside fact both.0, both.1));
+  kept_are = h.kept_are;
   listable = h.listable;
   moves_are = λ fact among. fact_stays e es fact (h.moves_are fact among);
   must = h.must;
+  ascend = h.ascend;
 }
+
+-- ---- packs with their blobs
+
+abbrev packed_of : Put → Packed
+packed_of p = record { pack = p.pack; items = p.items }
+
+objects_of : (puts : List Put) → map (λ (p : Packed). p.pack) (map packed_of puts) ≡ map (λ (p : Put). p.pack) puts
+objects_of [] = refl
+objects_of (p ∷ puts) = ap (λ os. p.pack ∷ os) (objects_of puts)
+
+blobs_of_all : (puts : List Put) → flat_map (λ (p : Packed). p.items) (map packed_of puts) ≡ items_of puts
+blobs_of_all [] = refl
+blobs_of_all (p ∷ puts) = ap (λ is. p.items ++ is) (blobs_of_all puts)
+
+each_holds : (puts : List Put) → Each IsPut puts → Each (λ (p : Packed). IsTruePack p.pack.bytes p.items) (map packed_of puts)
+each_holds [] h = tt
+each_holds (p ∷ puts) h = (h.0.holds, each_holds puts h.1)
+
+-- ---- what was received
+
+received_later : (e : Exchange) (es : Trace) (facts : List Fact) → AreReceived es facts → AreReceived (e ∷ es) facts
+received_later e es facts h fact among = let was = h fact among in (was.0, received_grows e es fact.kind was.0 was.1, was.2)
+
+-- by the same blobs that move, up to the same place
+pub received_as : (m n : Moving) (i j : ℕ) (es : Trace) → n.moves ≡ m.moves → j ≡ i → HaveCome es m.moves.items i → HaveCome es n.moves.items j
+received_as m n i j es moves same h = subst (λ (v : Vec Fact Global). HaveCome es v.items j) (sym moves) (subst (HaveCome es m.moves.items) (sym same) h)
+
+-- no more parts of packs
+few_later : (e : Exchange) (es : Trace) (i j : ℕ) → parts_in e.ask + i ≡ j → AreFewParts es i → AreFewParts (e ∷ es) j
+few_later e es i j more h = record {
+  trees = h.trees;
+  received = λ x among. received_grows e es Tree x (h.received x among);
+  apart = h.apart;
+  few = (let few = h.few in omega (arith, few, more));
+}
+
+-- over an exchange that asks for none
+pub received_on : (m n : Moving) (i j : ℕ) (e : Exchange) (es : Trace) → n.moves ≡ m.moves → j ≡ i → parts_in e.ask ≡ 0 → HaveCome es m.moves.items i → HaveCome (e ∷ es) n.moves.items j
+received_on m n i j e es moves same none h =
+    let more : parts_in e.ask + i ≡ i = omega (arith, none) in
+    received_as m n i j (e ∷ es) moves same (record { received = received_later e es (take i m.moves.items) h.received; parts = few_later e es i i more h.parts })
+
+-- over one that brings the next blob
+pub received_more : (m n : Moving) (e : Exchange) (es : Trace) (fact : Fact) (x : List ℕ) → n.moves ≡ m.moves → n.added ≡ m.asked + 1 → slice_get m.moves.items m.asked ≡ Some fact → ReadFact es fact → e.ask ≡ range_of fact → e.say ≡ Say.Bytes x → naming.name x ≡ fact.name
+    → HaveCome es m.moves.items m.asked → HaveCome (e ∷ es) n.moves.items n.added
+received_more m n e es fact x moves more at read is said named h =
+    let now : WasReceived (e ∷ es) fact.kind fact.name = (x, record { fact = fact; given = fact_stays e es fact read; of_kind = refl; replied = inl (is, said); named = named }, named) in
+    let before : AreReceived (e ∷ es) (take m.asked m.moves.items) = received_later e es (take m.asked m.moves.items) h.received in
+    let all : AreReceived (e ∷ es) (take m.asked m.moves.items ++ fact ∷ []) = λ f among. elim (Contains-append_cases (take m.asked m.moves.items) (fact ∷ []) f among) [
+      | inl first ↦ before f first
+      | inr last ↦ elim (contained_or fact [] f last) [ inl same ↦ subst (λ (g : Fact). WasReceived (e ∷ es) g.kind g.name) same now | inr none ↦ absurd (none_contained f none) ]
+    ] in
+    let one : parts_in e.ask ≡ 1 = ap parts_in is in
+    let next : parts_in e.ask + m.asked ≡ m.asked + 1 = omega (arith, one) in
+    received_as m n (m.asked + 1) n.added (e ∷ es) moves more (record {
+      received = subst (AreReceived (e ∷ es)) (sym (one_taken m.moves.items m.asked fact at)) all;
+      parts = few_later e es m.asked (m.asked + 1) next h.parts;
+    })
 
 -- ---- with the moving as it stands
 
@@ -94,11 +157,50 @@ module _ (k : Known) (m n : Moving) (puts : List Put) (es : Trace) (r : IsRepack
   same_moves : n.moves.items ≡ m.moves.items
   same_moves = ap (λ v. v.items) moves
 
+  -- packs are to be as large as the config that was read wants them
+  sent_aim : n.packer.target.bytes ≡ r.read.target.0.target
+  sent_aim = ap (λ (t : Target). t.bytes) target ∙ r.aim ∙ sym r.read.target.2
+
+  -- these are, with the blobs of the packs that were put, the first ones that move
+  next_moved : (items : List Item) → map pair_of_item (items_of puts ++ items) ≡ map pair_of_fact (take n.added n.moves.items) → AreNextMoved (IsNeededBy k.rows r.planned.texts) k.facts es items
+  next_moved items pairs = record {
+    moves = n.moves.items;
+    each = subst (λ fs. (fact : Fact) → Contains fs fact ↔ MustMoveBy (IsNeededBy k.rows r.planned.texts) k.facts fact) (sym same_moves) r.planned.must;
+    ascend = subst (λ fs. IsStrictlySortedBy place_first fs) (sym same_moves) r.planned.ascend;
+    packs = map packed_of puts;
+    put = objects_of puts ∙ r.put.packs;
+    hold = each_holds puts (each_alone puts r.put.each);
+    count = n.added;
+    first = ap (λ all. map pair_of_item (all ++ items)) (blobs_of_all puts) ∙ pairs;
+  }
+
+  -- what waits for its pack was received
+  held_received : (items : List Item) → map pair_of_item (items_of puts ++ items) ≡ map pair_of_fact (take n.added n.moves.items) → AreReceived es (take n.added n.moves.items) → (item : Item) → Contains items item → WasReceived es item.kind item.name
+  held_received items pairs got item among =
+      let pair = subst (λ ps. Contains ps (pair_of_item item)) pairs (contains_map pair_of_item (items_of puts ++ items) item (Contains-append_right (items_of puts) items item among)) in
+      let found = map_contains pair_of_fact (take n.added n.moves.items) (pair_of_item item) pair in
+      subst (λ (p : Pair). WasReceived es p.kind p.name) found.2 (got found.0 found.1)
+
   -- the next blob may be asked for
-  pub move_asked : (fact : Fact) → AwaitsBlob n fact (items_of puts) [] → n.listed.items ≡ m.listed.items → MayAsk prune_rule who (KnowsStage k (Stage.Moving n)) es (range_of fact)
-  move_asked fact a listed =
+  pub move_asked : (fact : Fact) → HaveCome es n.moves.items n.added → AwaitsBlob n fact (items_of puts) [] → n.listed.items ≡ m.listed.items → n.added ≡ n.asked → IsOpen n.packer.writer
+      → MayAsk prune_rule who (KnowsStage k (Stage.Moving n)) es (range_of fact)
+  unfolding next_moved
+  move_asked fact got a listed first room =
       let among : Contains m.moves.items fact = subst (λ fs. Contains fs fact) same_moves (contains_got n.moves.items n.asked fact a.asked) in
       let must = (r.planned.must fact).0 among in
+      let sent = items_of puts in
+      let pairs : map pair_of_item (sent ++ n.packer.writer.items) ≡ map pair_of_fact (take n.added n.moves.items) = ap (λ items. map pair_of_item (items ++ n.packer.writer.items)) (sym (append-nil sent)) ∙ a.moving.moved in
+      let once = subst (λ fs. AreFactsOnce (facts_in r.kept ++ fs)) (sym same_moves) r.planned.once in
+      let wants = r.read.target in
+      let next : IsNextMove (IsNeededBy k.rows r.planned.texts) k.facts es fact = record {
+        held = n.packer.writer.items;
+        received = held_received n.packer.writer.items pairs got.received;
+        before = next_moved n.packer.writer.items pairs;
+        next = ap (λ (i : ℕ). slice_get n.moves.items i) first ∙ a.asked;
+        room = (wants.0, wants.1, subst (λ t. IsOpen (record { items = n.packer.writer.items; target = t })) (a.moving.aim ∙ sent_aim) room);
+        few = got.parts;
+      } in
+      let fresh = unsent (facts_in r.kept) n.moves.items n.asked n.added fact sent n.packer.writer.items once a.asked a.before pairs in
       record {
         work = tt;
         may = ((token, w), (fact, r.planned.moves_are fact among, refl, refl, refl));
@@ -114,9 +216,9 @@ module _ (k : Known) (m n : Moving) (puts : List Put) (es : Trace) (r : IsRepack
           fact = fact;
           there = refl;
           copy = must.copy;
-          wanted = inr (r.planned.walked, must);
+          wanted = inr (r.planned.walked, must, λ packed. fresh (packed_one m.counts puts es r.put fact.kind fact.name packed), next);
         };
-        knows = record { puts = puts; sealed = []; fact = fact; repacking = repacks_as k m n puts [] es moves target listed (counted_alone n.counts puts a.moving.counted) r; awaits = a; asks = refl };
+        knows = record { puts = puts; sealed = []; fact = fact; repacking = repacks_as k m n puts [] es moves target listed (counted_alone n.counts puts a.moving.counted) r; awaits = a; asks = refl; received = subst (HaveCome es n.moves.items) first got };
       }
 
   module _ (sealed : Sealed) (s : SendsPack (items_of puts) m.listed.items sealed n) where
@@ -143,6 +245,10 @@ module _ (k : Known) (m n : Moving) (puts : List Put) (es : Trace) (r : IsRepack
     sent_first : (item : Item) → Contains s.items item → ¬ IsPacked es item.kind item.name
     sent_first item among packed = once_apart (items_of puts) s.items item.kind item.name sent_once (packed_one m.counts puts es r.put item.kind item.name packed) (item, among, refl, refl)
 
+    -- with those of the packs that were put they are the first ones that move
+    sent_next : AreNextMoved (IsNeededBy k.rows r.planned.texts) k.facts es s.items
+    sent_next = next_moved s.items sent_pairs
+
     -- once all were added, each blob that moves was put, or is of this pack
     sent_last : length n.moves.items ≤ n.added → AreLastMoved (IsNeededBy k.rows r.planned.texts) k.facts es s.items
     sent_last all fact must =
@@ -153,11 +259,7 @@ module _ (k : Known) (m n : Moving) (puts : List Put) (es : Trace) (r : IsRepack
         let has : HasItem (items_of puts ++ s.items) fact.kind fact.name = (found.0, found.1, ap (λ (p : Pair). p.kind) found.2, ap (λ (p : Pair). p.name) found.2) in
         elim (has_either (items_of puts) s.items fact.kind fact.name has) [ inl before ↦ inr (one_packed m.counts puts es r.put fact.kind fact.name before) | inr here ↦ inl here ]
 
-    -- it is as large as the config that was read wants packs
-    sent_aim : n.packer.target.bytes ≡ r.read.target.0.target
-    sent_aim = ap (λ (t : Target). t.bytes) target ∙ r.aim ∙ sym r.read.target.2
-
-    -- by it it wasn't full before its last blob
+    -- by the config that was read it wasn't full before its last blob
     sent_prompt : IsPromptPack es s.items
     sent_prompt =
         let wants = r.read.target in
@@ -170,8 +272,8 @@ module _ (k : Known) (m n : Moving) (puts : List Put) (es : Trace) (r : IsRepack
         elim s.full [ inl full ↦ inl (wants.0, wants.1, subst (λ b. IsDue (record { items = s.items; target = b })) sent_aim full) | inr all ↦ inr (sent_last all) ]
 
   -- a pack may be put
-  pub pack_asked : (sealed : Sealed) → SendsPack (items_of puts) m.listed.items sealed n → MayAsk prune_rule who (KnowsStage k (Stage.Moving n)) es (Ask.Put token Kind.Pack sealed.name sealed.bytes)
-  pack_asked sealed s =
+  pub pack_asked : (sealed : Sealed) → HaveCome es n.moves.items n.added → SendsPack (items_of puts) m.listed.items sealed n → MayAsk prune_rule who (KnowsStage k (Stage.Moving n)) es (Ask.Put token Kind.Pack sealed.name sealed.bytes)
+  pack_asked sealed got s =
       let p : Put = put_of sealed s.items s.listed in
       let is : IsPut p = is_put (Some sealed) s.items sealed s.listed s.lists in
       let listings : List PackFacts = map (λ (q : Put). q.listed) (puts ++ []) in
@@ -196,6 +298,7 @@ module _ (k : Known) (m n : Moving) (puts : List Put) (es : Trace) (r : IsRepack
           moved = sent_moves sealed s;
           once = once_behind (items_of puts) s.items (sent_once sealed s);
           unput = sent_first sealed s;
+          next = sent_next sealed s;
           prompt = sent_prompt sealed s;
           full = sent_full sealed s;
         };
@@ -216,15 +319,16 @@ module _ (k : Known) (m n : Moving) (puts : List Put) (es : Trace) (r : IsRepack
           };
           pack_is = refl;
           moving = subst (λ is. IsMoving n is []) (sym (items_push puts p)) s.moving;
+          received = got;
         };
       }
 
   -- what comes next, unless all is moved
-  pub goes_on : (moved : Moved) (step : Step) → moved ≢ Moved.Done → MovesOn (items_of puts) m.listed.items moved n → MovesTo token moved step → IsNextStep k who (Stage.Moving n) step es
-  goes_on (Moved.Ask fact) step other on to = subst (λ s. IsNextStep k who (Stage.Moving n) s es) (sym to) (move_asked fact on.0 on.1)
-  goes_on (Moved.Put sealed) step other on to = subst (λ s. IsNextStep k who (Stage.Moving n) s es) (sym (to on.items on.lists.holds)) (pack_asked sealed on)
-  goes_on Moved.Done step other on to = absurd (other refl)
-  goes_on Moved.Nothing step other on to = absurd on
+  pub goes_on : HaveCome es n.moves.items n.added → (moved : Moved) (step : Step) → moved ≢ Moved.Done → MovesOn (items_of puts) m.listed.items moved n → MovesTo token moved step → IsNextStep k who (Stage.Moving n) step es
+  goes_on got (Moved.Ask fact) step other on to = subst (λ s. IsNextStep k who (Stage.Moving n) s es) (sym to) (move_asked fact got on.0 on.1 on.2 on.3)
+  goes_on got (Moved.Put sealed) step other on to = subst (λ s. IsNextStep k who (Stage.Moving n) s es) (sym (to on.items on.lists.holds)) (pack_asked sealed got on)
+  goes_on got Moved.Done step other on to = absurd (other refl)
+  goes_on got Moved.Nothing step other on to = absurd on
 
   -- all is moved
   pub all_moved : MovesOn (items_of puts) m.listed.items Moved.Done n → HasMoved k n es
@@ -251,6 +355,13 @@ begins_moving k m kept moves es h is listed same aim = record {
   aim = aim;
 }
 
+-- none was added yet
+pub none_received : (m : Moving) (es : Trace) → AreFewParts es 0 → m.added ≡ 0 → HaveCome es m.moves.items m.added
+none_received m es parts none = record {
+  received = λ fact among. absurd (none_contained fact (subst (λ (i : ℕ). Contains (take i m.moves.items) fact) none among));
+  parts = subst (AreFewParts es) (sym none) parts;
+}
+
 -- ---- a blob came
 
 -- the blob of this fact was asked for
@@ -261,6 +372,7 @@ pub record IsAwaited (k : Known) (m : Moving) (fact : Fact) (ask : Ask) (es : Tr
   pub awaits : AwaitsBlob m fact (items_of puts) sealed
   pub asks : ask ≡ range_of fact
   pub read : ReadFact es fact
+  pub received : HaveCome es m.moves.items m.asked
 
 pub blob_known : (k : Known) (m : Moving) (fact : Fact) (ask : Ask) (es : Trace) → Some fact ≡ slice_get m.moves.items m.asked → KnowsMove k m ask es → IsAwaited k m fact ask es
 blob_known k m fact ask es at h =
@@ -273,13 +385,14 @@ blob_known k m fact ask es at h =
       awaits = a;
       asks = h.asks ∙ ap range_of same;
       read = h.repacking.planned.moves_are fact (contains_got m.moves.items m.asked fact a.asked);
+      received = h.received;
     }
 
 -- it isn't what the fact promises
 pub bad_range : (known : ℕ) (e : Exchange) (es : Trace) (fact : Fact) (x : List ℕ) → e.ask ≡ range_of fact → e.say ≡ Say.Bytes x → ReadFact es fact → IsBadBlob fact x → IsCause known (e ∷ es) (End.BadObject (blob_thing fact.kind) fact.name)
 bad_range known e es fact x is said read bad =
-    let at : IsBad (e ∷ es) (range_of fact) e.say (blob_thing fact.kind) fact.name = (x, fact, said, fact_stays e es fact read, refl, refl, refl, refl, refl, bad) in
-    inl (subst (λ a. IsBad (e ∷ es) a e.say (blob_thing fact.kind) fact.name) (sym is) at)
+    let at : IsBad known (e ∷ es) (range_of fact) e.say (blob_thing fact.kind) fact.name = (x, fact, said, fact_stays e es fact read, refl, refl, refl, refl, refl, bad) in
+    inl (subst (λ a. IsBad known (e ∷ es) a e.say (blob_thing fact.kind) fact.name) (sym is) at)
 
 read_length : (es : Trace) (fact : Fact) → ReadFact es fact → IsBlobLength fact.place.length
 read_length es fact read = (read_within es fact read).blob

@@ -22,26 +22,25 @@ use Rattle.repo_session.specs.Askers.{Asker}
 use Rattle.repo_session.specs.Jobs.{MayAsk}
 use Rattle.repo_session.specs.Order.{IsWorking}
 use Rattle.repo_session.specs.Traces.{Each, Exchange, Object, Trace, object_put, objects_put}
-use Rattle.repo_session.proofs.Cataloguing.{fact_stays}
 use Rattle.repo_session.proofs.Deleting.{DeletesNone, none_deleted_on}
-use Rattle.repo_writing.proofs.PutLemmas.{each_contained, objects_put_other, objects_put_more, put_done_later}
-use Rattle.repo_writing.proofs.Writings.{none_listed, packs_stay, index_done, put_listed, puts_lawful, each_alone, listing_of, IsLawfulListing}
-use Rattle.repo_writing.specs.Blobs.{HasFact, AreFactsOnce}
+use Rattle.repo_writing.proofs.PutLemmas.{each_contained, objects_put_other, objects_put_more}
+use Rattle.repo_writing.proofs.Writings.{none_listed, packs_stay, index_done, put_listed, puts_lawful, each_alone, listing_of, one_packed, IsLawfulListing}
+use Rattle.repo_writing.specs.Blobs.{HasFact, HasItem, AreFactsOnce}
 use Rattle.repo_writing.specs.Filling.{IsFullIndex}
-use Rattle.repo_writing.specs.Laws.{IsPutOrKept}
-use Rattle.repo_writing.specs.Putting.{IsIndexed}
+use Rattle.repo_writing.specs.Putting.{IsPacked, IsIndexed}
 use Rattle.repo_writing.specs.Writing.{Put, IsPut, items_of, AreListed, packs_of}
-use Rattle.repo_prune.specs.Moving.{pair_of_item, pair_of_fact, items_so_far}
+use Rattle.repo_prune.specs.Moving.{items_so_far}
 use Rattle.repo_prune.specs.PruneStates.{Known, HasMoved, ArePacked, MayList, PrunePutsIndex, HasListed, KnowsStage, IsNextStep}
-use Rattle.repo_prune.specs.Pruning.{prune_rule, prune_task, AreCovered, AreLastListed, IsNeededBy}
+use Rattle.repo_prune.specs.Pruning.{AscendByName, prune_rule, prune_task, AreCovered, AreLastListed, AreLastMoved, IsNeededBy, IsPutOrStays, Pair, pair_of_item, pair_of_fact}
 use Rattle.repo_prune.specs.Relisting.{IsListable, AreListable, PutsNext, Relists}
 use Rattle.repo_prune.specs.declared.moving.Moving.{Moving}
 use Rattle.repo_prune.specs.declared.prunes.Stage.{Stage}
 use Rattle.repo_prune.specs.declared.relisting.Relisting.{Relisting}
-use Rattle.repo_prune.proofs.Asides.{IsAside, read_same, fact_same}
+use Rattle.repo_prune.proofs.Asides.{IsAside, read_same}
 use Rattle.repo_prune.proofs.Firsts.{indexed_before, some_first, some_once}
 use Rattle.repo_prune.proofs.Pairs.{count, pairs_of, counted_has, has_counted, once_counted, counted_once, count_shuffled, repacked_pairs}
-use Rattle.repo_prune.proofs.Relistings.{in_first}
+use Rattle.repo_prune.proofs.Relistings.{in_first, first_ascend}
+use Rattle.repo_prune.proofs.Staying.{put_or_stays_later}
 use Rattle.repo_prune.proofs.PruneDeletes.{covered_later, puts_listed}
 
 -- ---- all blobs are moved
@@ -57,7 +56,7 @@ put_listable p is lawful =
       within = λ fact among. All-contains (λ (f : Fact). (f.place.pack ≡ p.listed.pack) × IsWithin f.place.offset f.place.length) p.listed.facts fact lawful.within among;
     }
 
-module _ (k : Known) (m : Moving) (es : Trace) (h : HasMoved k m es) (packs : List PackFacts) (same : IsPermutation m.listed.items packs) where
+module _ (k : Known) (m : Moving) (es : Trace) (h : HasMoved k m es) (packs : List PackFacts) (same : IsPermutation m.listed.items packs) (ascend : AscendByName packs) where
   listings : List PackFacts
   listings = map (λ (p : Put). p.listed) h.puts
 
@@ -104,12 +103,22 @@ module _ (k : Known) (m : Moving) (es : Trace) (h : HasMoved k m es) (packs : Li
       let there = Contains-permutation packs m.listed.items listed (IsPermutation-sym m.listed.items packs same) among in
       Contains-append_cases h.repacking.kept listings listed (subst (λ ls. Contains ls listed) all_listed there)
 
-  may_be_listed : (listed : PackFacts) → Contains packs listed → IsPutOrKept es listed
-  unfolding either listings
+  may_be_listed : (listed : PackFacts) → Contains packs listed → IsPutOrStays es (IsNeededBy k.rows covers.texts) k.facts listed
+  unfolding covers either listings
   may_be_listed listed among = elim (either listed among) [
     | inl kept ↦ inr (h.repacking.planned.kept_are listed kept)
     | inr put ↦ inl (put_listed m.counts h.puts es h.repacking.put listed put)
   ]
+
+  -- each blob that moves is in a pack that was put
+  none_left : AreLastMoved (IsNeededBy k.rows covers.texts) k.facts es []
+  unfolding covers
+  none_left fact must =
+      let among : Contains m.moves.items fact = (h.repacking.planned.must fact).1 must in
+      let pair = subst (λ ps. Contains ps (pair_of_fact fact)) (sym moved_all) (contains_map pair_of_fact m.moves.items fact among) in
+      let found = map_contains pair_of_item (items_of h.puts) (pair_of_fact fact) pair in
+      let has : HasItem (items_of h.puts) fact.kind fact.name = (found.0, found.1, ap (λ (p : Pair). p.kind) found.2, ap (λ (p : Pair). p.name) found.2) in
+      inr (one_packed m.counts h.puts es h.repacking.put fact.kind fact.name has)
 
   are_listable : AreListable packs
   unfolding either listings each_put
@@ -135,19 +144,25 @@ module _ (k : Known) (m : Moving) (es : Trace) (h : HasMoved k m es) (packs : Li
     puts = h.puts;
     put = h.repacking.put;
     stand = stands_put;
-    each = may_be_listed;
-    listable = are_listable;
     covered = covers;
+    each = may_be_listed;
+    moved = none_left;
+    listable = are_listable;
+    ascend = ascend;
     unstored = h.repacking.unstored;
   }))
+
+-- over an exchange that puts no pack
+packed_later : (e : Exchange) (es : Trace) (kind : BlobKind) (n : Name) → object_put Kind.Pack e.ask ≡ [] → IsPacked es kind n → IsPacked (e ∷ es) kind n
+packed_later e es kind n other packed = record { pack = packed.pack; items = packed.items; put = subst (λ os. Contains os packed.pack) (sym (objects_put_other Kind.Pack e es other)) packed.put; holds = packed.holds; among = packed.among }
 
 none_first : (packs : List PackFacts) (n : ℕ) → n ≡ 0 → take n packs ≡ []
 none_first packs n h = ap (λ i. take i packs) h
 
 -- then the listing begins
-pub may_list : (k : Known) (m : Moving) (r : Relisting) (es : Trace) → HasMoved k m es → IsPermutation m.listed.items r.packs.items → r.counts ≡ m.counts → r.listed ≡ 0 → r.indexes.items ≡ [] → MayList k r es
-may_list k m r es h same counts none names = record {
-  packed = packed k m es h r.packs.items same r refl counts;
+pub may_list : (k : Known) (m : Moving) (r : Relisting) (es : Trace) → HasMoved k m es → IsPermutation m.listed.items r.packs.items → AscendByName r.packs.items → r.counts ≡ m.counts → r.listed ≡ 0 → r.indexes.items ≡ [] → MayList k r es
+may_list k m r es h same ascend counts none names = record {
+  packed = packed k m es h r.packs.items same ascend r refl counts;
   lists = subst (λ ls. AreListed ls [] es) (sym (none_first r.packs.items r.listed none)) (none_listed [] es h.repacking.unindexed);
   named = names ∙ sym (ap (λ os. map (λ (o : Object). o.name) os) h.repacking.unindexed);
 }
@@ -221,17 +236,22 @@ module _ (k : Known) (r s : Relisting) (es : Trace) (h : MayList k r es) where
         may = (w, refl, p.short);
         allowed = record {
           none = h.packed.none;
-          indexes = h.packed.read.indexes;
-          lists = record { packs = p.waiting; reads = p.reads; some = p.some; each = λ listed has. h.packed.each listed (among listed has) };
-          few = p.few;
           rows = k.rows;
           snapshots = h.packed.read.snapshots;
+          indexes = h.packed.read.indexes;
           texts = h.packed.covered.texts;
           trees = h.packed.covered.trees;
           walked = h.packed.covered.walked;
+          facts = k.facts;
+          gives = h.packed.read.gives;
+          lists = record { packs = p.waiting; reads = p.reads; some = p.some; each = λ listed has. h.packed.each listed (among listed has) };
+          few = p.few;
           needed = waits_needed k r es h s.listed p.waiting next;
           once = waits_once k r es h s.listed p.waiting next;
           first = waits_first k r es h s.listed p.waiting next;
+          behind = (take s.listed s.packs.items, all, first_ascend s.packs.items s.listed (subst AscendByName (sym p.packs) h.packed.ascend));
+          moved = h.packed.moved;
+          cut = p.cut;
           full = full;
         };
         knows = record {
@@ -262,6 +282,7 @@ module _ (k : Known) (r s : Relisting) (es : Trace) (h : MayList k r es) where
 
 -- the put of one is done
 pub index_put : (k : Known) (r : Relisting) (token : Token) (n : Name) (x : List ℕ) (e : Exchange) (es : Trace) → e.ask ≡ Ask.Put token Kind.Index n x → e.say ≡ Say.Done → PrunePutsIndex k r n x es → MayList k r (e ∷ es)
+unfolding covered_later
 index_put k r token n x e es is said h =
     let p = h.packed in
     let aside : IsAside e.ask = subst IsAside (sym is) tt in
@@ -274,18 +295,13 @@ index_put k r token n x e es is said h =
         puts = p.puts;
         put = packs_stay r.counts p.puts [] e es (other Kind.Pack refl) p.put;
         stand = p.stand;
-        each = λ listed among. listed_later e es aside listed (p.each listed among);
-        listable = p.listable;
         covered = covered_later e es k.rows r.packs.items p.covered;
+        each = λ listed among. put_or_stays_later e es (IsNeededBy k.rows p.covered.texts) k.facts listed (p.each listed among);
+        moved = λ fact must. elim (p.moved fact must) [ inl has ↦ inl has | inr packed ↦ inr (packed_later e es fact.kind fact.name (other Kind.Pack refl) packed) ];
+        listable = p.listable;
+        ascend = p.ascend;
         unstored = objects_put_other Kind.Snapshot e es (other Kind.Snapshot refl) ∙ p.unstored;
       };
       lists = index_done (take r.listed r.packs.items) h.waiting token n x e es h.reads is said h.lists;
       named = h.named ∙ sym (ap (λ os. map (λ (o : Object). o.name) os) (objects_put_more Kind.Index e es token n x is) ∙ map-append (λ (o : Object). o.name) (objects_put Kind.Index es) (record { name = n; bytes = x } ∷ []));
     }
-  where
-    listed_later : (e : Exchange) (es : Trace) → IsAside e.ask → (listed : PackFacts) → IsPutOrKept es listed → IsPutOrKept (e ∷ es) listed
-    listed_later e es aside listed (inl put) = inl (record { bytes = put.bytes; items = put.items; put = put_done_later e es Kind.Pack listed.pack put.bytes put.put; holds = put.holds; exact = put.exact })
-    listed_later e es aside listed (inr kept) = inr (λ fact. (
-      λ has. let b = (kept fact).0 has in (fact_stays e es fact b.0, b.1),
-      λ both. (kept fact).1 (fact_same e es aside fact both.0, both.1),
-    ))

@@ -1,15 +1,20 @@
 -- What is known while a prune reads trees, and once it did.
-use Rattle.std.proofs.Common.{Vec, Global, ◌≡◌, ◌≤◌, ◌↔◌, ◌++◌, ◌∷◌, [], ℕ, Bool, true, false, List, map, Some, slice_get, refl, sym, ap, subst, inl, inr, ◌∙◌, Contains}
+use Rattle.std.proofs.Common.{arith, Vec, Global, ◌≡◌, ◌≢◌, ◌⊎◌, ◌≤◌, ◌++◌, ◌∷◌, [], ℕ, Bool, true, false, List, length, map, Some, slice_get, get_or, refl, sym, ap, subst, inl, inr, ◌∙◌, Contains}
 use Rattle.std.specs.List.{All}
-use Rattle.std.proofs.lemmas.List.Elements.{All-contains, Contains-append_cases}
+use Rattle.std.proofs.lemmas.List.Elements.{All-contains, Contains-get_or, Contains-append_left, Contains-append_right, Contains-append_cases}
+use Rattle.std.proofs.lemmas.List.{length-append}
+use Rattle.std.proofs.lemmas.List.Quantifiers.{all_pairs_push}
 use Rattle.std.proofs.lemmas.Option.{none-some}
-use Rattle.repo_name.proofs.Containing.{contained_or, contains_map, flat_contains, map_contains, none_contained}
+use Rattle.repo_name.specs.Naming as naming
+use Rattle.repo_wire.specs.declared.messages.Ask.{Ask}
+use Rattle.repo_name.proofs.Containing.{contained_or, contains_map, first_contained, flat_contains, map_contains, none_contained}
 use Rattle.repo_name.specs.declared.kinds.BlobKind.{BlobKind}
 use Rattle.repo_name.specs.declared.kinds.BlobKind.TheVariants.{Content, Tree}
 use Rattle.repo_name.specs.declared.kinds.Kind.{Kind}
 use Rattle.repo_name.specs.declared.kinds.Thing.{Thing}
 use Rattle.repo_name.specs.declared.names.Name.{Name}
 use Rattle.repo_name.specs.declared.tokens.Token.{Token}
+use Rattle.repo_wire.specs.declared.messages.Say.{Say}
 use Rattle.repo_pack.specs.PackLayout.{IsWithin}
 use Rattle.repo_index.proofs.OneLemmas.{index_texts_lawful}
 use Rattle.repo_index.specs.IndexText.{fact_of}
@@ -30,10 +35,12 @@ use Rattle.repo_session.specs.Jobs.{MayAsk}
 use Rattle.repo_session.specs.Listings.{IsSnapshotListing, IsReadRow}
 use Rattle.repo_session.specs.Order.{IsWorking}
 use Rattle.repo_session.specs.Received.{Received}
-use Rattle.repo_session.specs.Traces.{Exchange, Trace, Lists, ReadFact}
-use Rattle.repo_session.specs.Trees.{HasRoot, Under, IsNeeded, IsBroken, IsUnindexed}
-use Rattle.repo_session.proofs.Descending.{broken_grows, needed_grows, received_grows, under_grows}
-use Rattle.repo_session.proofs.Reaching.{reached_needed, under_reached}
+use Rattle.repo_session.specs.Traces.{Exchange, Trace, Lists, ReadFact, WasAsked}
+use Rattle.repo_session.specs.Trees.{HasRoot, Under, IsBroken, IsUnindexed}
+use Rattle.repo_session.proofs.Descending.{broken_grows, reach_grows, received_grows, under_grows}
+use Rattle.repo_session.proofs.Growing.{bytes_same}
+use Rattle.repo_session.proofs.Reaching.{under_reached}
+use Rattle.repo_session.proofs.Spoken.{was_asked}
 use Rattle.repo_reach.proofs.Reaching.{used_is_reached}
 use Rattle.repo_reach.proofs.Leading.{same_version}
 use Rattle.repo_reach.proofs.Reading.{read_by}
@@ -46,14 +53,13 @@ use Rattle.repo_reach.specs.declared.looks.Seen.{Seen}
 use Rattle.repo_reach.specs.declared.trees.Trees.{Trees}
 use Rattle.repo_reach.specs.Used.{UsedHasPair}
 use Rattle.repo_writing.proofs.PutLemmas.{each_contained}
-use Rattle.repo_writing.specs.Putting.{IsKeptPack}
 use Rattle.repo_prune.specs.inner.Deciding.{IsPlanned}
 use Rattle.repo_prune.specs.Keeping.{Row}
-use Rattle.repo_prune.specs.PruneStates.{Known, HaveRead, IsWalkOver, HasWalked, ArePlanned, KnowsStage}
-use Rattle.repo_prune.specs.Pruning.{IsUntouched, prune_rule, prune_task, IsNeededBy, IsUsedCopyBy, MayStayBy, AreWalked, IsBadTree, PruneConcludes}
+use Rattle.repo_prune.specs.PruneStates.{Known, HasOnlyListed, HaveRead, IsWalkOver, HasWalked, ArePlanned, KnowsStage}
+use Rattle.repo_prune.specs.Pruning.{IsUntouched, AreFewParts, parts_in, parts_asked, prune_rule, prune_task, IsNeededBy, IsUsedCopyBy, MayStayBy, AreWalked, IsBadTree, PruneConcludes}
 use Rattle.repo_prune.specs.Reading.{Walks, Awaits, CannotGoOn, IsPromised, TakesTree}
 use Rattle.repo_prune.specs.declared.reading.Walked.{Walked}
-use Rattle.repo_prune.proofs.Asides.{IsAside, IsNoChange, read_same, untouched_same}
+use Rattle.repo_prune.proofs.Asides.{IsAside, IsNoChange, fact_same, only_listed, read_same, untouched_same}
 use Rattle.repo_session.proofs.Cataloguing.{fact_stays}
 use Rattle.repo_prune.specs.declared.plans.Plan.{Plan}
 use Rattle.repo_prune.specs.declared.prunes.Stage.{Stage}
@@ -122,7 +128,7 @@ tree_asked k who token es texts trees fact w over a =
           is_used = subst (λ kind. IsNeededBy k.rows texts kind fact.name) of_tree (tree_needed k es texts trees fact.name over a.next.3);
           least = subst (λ kind. IsLeast k.facts kind fact.name fact.place) of_tree a.next.1;
         };
-        wanted = inl a.next.0;
+        wanted = inl (a.next.0, λ x received same. (let seen = a.walks.walk.seen.known x (over.all x received) in a.next.2 seen.0 seen.1 seen.2 (seen.3 ∙ same)));
       };
       knows = record { texts = texts; over = over; awaits = a; asks = refl };
     }
@@ -138,13 +144,13 @@ module _ (k : Known) (es : Trace) (texts : List (List ℕ)) (roots : List Root) 
   row_of root h = map_contains row_root k.rows root (subst (λ rs. Contains rs root) roots_are h)
 
   -- a blob that a snapshot needs, and no index gives
-  pub unindexed : (kind : BlobKind) (n : Name) → IsBlobNowhere k.facts kind n → (root : Root) → Contains roots root → IsNeeded (version_by root.follows) (tree_blobs texts) root.tree kind n
+  pub unindexed : (kind : BlobKind) (n : Name) → IsBlobNowhere k.facts kind n → (root : Root) → Contains roots root → Reach (version_by root.follows) (tree_blobs texts) root.tree kind n
       → (snapshot : Name) × Lists es Kind.Snapshot snapshot × IsUnindexed es snapshot (blob_thing kind) n
-  unindexed kind n nowhere root among needed =
+  unindexed kind n nowhere root among reached =
       let row = row_of root among in
       let version = row.0.1.version in
       let tree = row.0.1.tree in
-      let by : IsNeeded version (tree_blobs texts) tree kind n = by_version es k.rows read.snapshots row.0 row.1 (λ v t. IsNeeded v (tree_blobs texts) t kind n) root row.2 needed in (
+      let by : Reach version (tree_blobs texts) tree kind n = by_version es k.rows read.snapshots row.0 row.1 (λ v t. Reach v (tree_blobs texts) t kind n) root row.2 reached in (
         row.0.0,
         row_listed es k.rows read.snapshots row.0 row.1,
         record {
@@ -153,8 +159,8 @@ module _ (k : Known) (es : Trace) (texts : List (List ℕ)) (roots : List Root) 
           version = version;
           root = tree;
           found = row_found es k.rows read.snapshots row.0 row.1;
-          needed = needed_grows version (tree_blobs texts) (Received es) (texts_received es texts received) tree kind n by;
-          indexes = record { listed = read.indexes.listed; each = λ m lists. let i = read.indexes.each m lists in (i.0, i.2) };
+          reached = reach_grows version (tree_blobs texts) (Received es) (texts_received es texts received) tree kind n by;
+          indexes = read.indexes;
           ungiven = λ given.
               let fact : Fact = given.0 in
               let is : fact ≡ fact_of kind n fact.place = λ i. record { kind = given.2 i; name = given.3 i; place = fact.place } in
@@ -162,8 +168,8 @@ module _ (k : Known) (es : Trace) (texts : List (List ℕ)) (roots : List Root) 
         },
       )
 
-  pub bad_tree_there : (tree : Name) (root : Root) → Contains roots root → (path : List (List ℕ)) → Under (version_by root.follows) (tree_blobs texts) root.tree path tree → IsBroken (version_by root.follows) (tree_blobs texts) root.tree path tree → IsBadTree es tree
-  bad_tree_there tree root among path under broken =
+  pub bad_tree_there : (tree : Name) (root : Root) → Contains roots root → (path : List (List ℕ)) → length path ≤ greatest_depth → Under (version_by root.follows) (tree_blobs texts) root.tree path tree → IsBroken (version_by root.follows) (tree_blobs texts) root.tree path tree → IsBadTree es tree
+  bad_tree_there tree root among path shallow under broken =
       let row = row_of root among in
       let version = row.0.1.version in
       let top = row.0.1.tree in
@@ -176,6 +182,7 @@ module _ (k : Known) (es : Trace) (texts : List (List ℕ)) (roots : List Root) 
         root = top;
         found = row_found es k.rows read.snapshots row.0 row.1;
         path = path;
+        shallow = shallow;
         leads = under_grows version (tree_blobs texts) (Received es) (texts_received es texts received) top path tree at;
         broken = broken_grows version (tree_blobs texts) (Received es) (texts_received es texts received) top path tree bad;
       }
@@ -185,7 +192,7 @@ module _ (k : Known) (es : Trace) (texts : List (List ℕ)) (roots : List Root) 
       let u = unindexed h.0 n h.2 h.3.0 h.3.1 h.3.2 in
       (untouched, subst (λ t. (snapshot : Name) × Lists es Kind.Snapshot snapshot × IsUnindexed es snapshot t n) (sym h.1) u)
   cannot_go_on untouched (End.BadObject thing tree) h =
-      let bad = bad_tree_there tree h.1.0 h.1.1 h.1.2.0 h.1.2.1 h.1.2.2 in
+      let bad = bad_tree_there tree h.1.0 h.1.1 h.1.2.0 h.1.2.1 h.1.2.2 h.1.2.3 in
       subst (λ t. PruneConcludes es (Outcome.Ended (End.BadObject t tree))) (sym h.0) (untouched, bad)
   cannot_go_on untouched End.Busy h = absurd h
   cannot_go_on untouched End.Fenced h = absurd h
@@ -252,12 +259,6 @@ module _ (k : Known) (trees : Trees) (es : Trace) (h : HasWalked k trees es) whe
         subst (λ v. ListsBy v (tree_blobs h.texts) n lists.0) (row_version es k.rows listing row among) (subst (λ m. ListsBy (version_by follows) (tree_blobs h.texts) m lists.0) l.3 lists.1),
       )
 
-  kept_pack : (facts : List Fact) (listed : PackFacts) → facts ≡ k.facts → ((fact : Fact) → Contains listed.facts fact ↔ (Contains facts fact × (fact.place.pack ≡ listed.pack))) → IsKeptPack es listed
-  kept_pack facts listed same each fact = (
-    λ has. let b = (each fact).0 has in ((h.over.read.gives fact).0 (subst (λ fs. Contains fs fact) same b.0), b.1),
-    λ both. (each fact).1 (subst (λ fs. Contains fs fact) (sym same) ((h.over.read.gives fact).1 both.0), both.1),
-  )
-
   needed_copy : {plan : Plan} (p : IsPlanned k.facts trees plan) (fact : Fact) → IsUsedCopyBy (UsedHasPair p.used) k.facts fact → IsUsedCopyBy (IsNeededBy k.rows h.texts) k.facts fact
   needed_copy p fact c = record { is_used = used_needed fact.kind fact.name ((p.pairs fact.kind fact.name).0 c.is_used); least = c.least }
 
@@ -280,7 +281,7 @@ module _ (k : Known) (trees : Trees) (es : Trace) (h : HasWalked k trees es) whe
         p.covers.given kind n pair (p.given h.walks.found kind n pair);
     just = λ fact among. used_needed fact.kind fact.name ((p.pairs fact.kind fact.name).0 (p.covers.just fact among));
     once = p.covers.once;
-    kept_are = λ listed among. kept_pack k.facts listed refl ((p.plan_of.kept listed).0 among).all.each;
+    kept_are = λ listed among. stays_needed p listed ((p.plan_of.kept listed).0 among);
     listable = λ listed among.
         let stays = (p.plan_of.kept listed).0 among in
         record {
@@ -295,6 +296,7 @@ module _ (k : Known) (trees : Trees) (es : Trace) (h : HasWalked k trees es) whe
           record { copy = needed_copy p fact moves.copy; leaves = λ listed stays. moves.leaves listed (stays_used p listed stays) },
       λ must. (p.plan_of.moves fact).1 (record { copy = used_copy p fact must.copy; leaves = λ listed stays. must.leaves listed (stays_needed p listed stays) }),
     );
+    ascend = p.plan_of.moves_ascend;
   }
 
   -- some content that is used, and that no index gives
@@ -302,7 +304,10 @@ module _ (k : Known) (trees : Trees) (es : Trace) (h : HasWalked k trees es) whe
   content_unindexed n (follows, used) nowhere =
       let reached = (used_is_reached h.texts trees h.walks.walk h.whole follows Content n).1 used in
       let root : Root = record { tree = reached.0; follows = follows } in
-      unindexed k es h.texts trees.roots.items h.over.read h.over.roots h.over.received Content n nowhere root reached.1 (reached_needed (version_by follows) (tree_blobs h.texts) reached.0 Content n reached.2)
+      unindexed k es h.texts trees.roots.items h.over.read h.over.roots h.over.received Content n nowhere root reached.1 reached.2
+
+pub walked_parts : (k : Known) (trees : Trees) (es : Trace) → HasWalked k trees es → AreFewParts es 0
+walked_parts k trees es h = record { trees = h.texts; received = h.over.received; apart = h.over.apart; few = (let few = h.over.parts in omega (arith, few)) }
 
 -- ---- at the begin
 
@@ -312,8 +317,41 @@ none_got all i seen none there = let empty : List Seen = [] in let at : slice_ge
 pub first_walk : (facts : List Fact) (trees : Trees) → IsWalk [] trees → trees.seen.items ≡ [] → Walks facts [] trees
 first_walk facts trees walk none = record { walk = walk; found = λ i seen there. absurd (none_got trees.seen.items i seen none there); parts = λ i seen depth there was. absurd (none_got trees.seen.items i seen none there) }
 
-pub first_over : (k : Known) (trees : Trees) (es : Trace) → HaveRead k es → IsUntouched es → trees.roots.items ≡ map (λ (row : Row). root_of row.1.tree row.1.version) k.rows → IsWalkOver k [] trees es
-first_over k trees es read untouched roots = record { read = read; untouched = untouched; roots = roots; received = λ x h. absurd (none_contained x h) }
+-- a part of a pack is asked for, or none
+part_or_none : (a : Ask) → ((pack : Name) × (offset : ℕ) × (len : ℕ) × (a ≡ Ask.Range pack offset len)) ⊎ (parts_in a ≡ 0)
+part_or_none Ask.Ticket = inr refl
+part_or_none (Ask.Lock row) = inr refl
+part_or_none (Ask.Refresh token time) = inr refl
+part_or_none (Ask.Unlock token) = inr refl
+part_or_none Ask.Locks = inr refl
+part_or_none (Ask.List k after) = inr refl
+part_or_none (Ask.Get k n) = inr refl
+part_or_none (Ask.Range pack offset len) = inl (pack, offset, len, refl)
+part_or_none (Ask.Put token k n x) = inr refl
+part_or_none (Ask.Delete token k n) = inr refl
+part_or_none Ask.Config = inr refl
+part_or_none (Ask.Upgrade token) = inr refl
+
+-- where none was, there are none
+none_asked : (es : Trace) → ((pack : Name) (offset len : ℕ) → ¬ WasAsked es (Ask.Range pack offset len)) → parts_asked es ≡ 0
+none_asked [] none = refl
+none_asked (e ∷ es) none =
+    let more : parts_asked es ≡ 0 = none_asked es (λ pack offset len was. none pack offset len (inr was)) in
+    elim (part_or_none e.ask) [
+      | inl one ↦ absurd (none one.0 one.1 one.2 (inl one.3))
+      | inr zero ↦ omega (arith, zero, more)
+    ]
+
+pub first_over : (k : Known) (trees : Trees) (es : Trace) → HaveRead k es → HasOnlyListed es → trees.roots.items ≡ map (λ (row : Row). root_of row.1.tree row.1.version) k.rows → IsWalkOver k [] trees es
+first_over k trees es read listed roots = record {
+  read = read;
+  untouched = only_listed es listed;
+  roots = roots;
+  received = λ x h. absurd (none_contained x h);
+  all = λ x r. absurd (listed.none_ranged r.fact.place.pack r.fact.place.offset r.fact.place.length (was_asked es (range_of r.fact) (Say.Bytes x) r.replied));
+  apart = λ i j d before within. absurd (omega (arith, within));
+  parts = (let none = none_asked es listed.none_ranged in omega (arith, none));
+}
 
 -- ---- a tree came
 
@@ -332,6 +370,15 @@ walk_more k texts trees new fact e es x over a is promised roots =
         | inl old ↦ received_grows e es Tree y (over.received y old)
         | inr last ↦ elim (contained_or x [] y last) [ inl same ↦ subst (Received (e ∷ es) Tree) same now | inr none ↦ absurd (none_contained y none) ]
       ];
+      all = λ y r. elim r.replied [
+        | inl here ↦ Contains-append_right texts (x ∷ []) y (subst (λ z. Contains (z ∷ []) y) (bytes_same e.say y x here.1 promised.bytes) (first_contained y []))
+        | inr was ↦ Contains-append_left texts (x ∷ []) y (over.all y (record { fact = r.fact; given = fact_same e es aside r.fact r.given; of_kind = r.of_kind; replied = was; named = r.named }))
+      ];
+      apart = all_pairs_push (λ (y z : List ℕ). naming.name y ≢ naming.name z) texts x over.apart (λ i d within same.
+          let y : List ℕ = get_or texts i d in
+          let seen = a.walks.walk.seen.known y (Contains-get_or texts i d within) in
+          a.next.2 seen.0 seen.1 seen.2 (seen.3 ∙ (same ∙ promised.named)));
+      parts = (let one : parts_in e.ask ≡ 1 = ap parts_in is in let few = over.parts in omega (arith, one, few, length-append texts (x ∷ [])));
     }
 
 -- the tree's bytes are bad, or it can't go on
@@ -340,8 +387,8 @@ pub tree_ended : (known : ℕ) (k : Known) (texts : List (List ℕ)) (trees new 
 tree_ended known k texts trees new fact e es end over a is roots (inl (x, said, bad, same)) =
     let given = awaited_read k es texts trees fact over.read a in
     let kind : blob_thing fact.kind ≡ Thing.Tree = ap blob_thing a.next.0 in
-    let at : IsBad (e ∷ es) (range_of fact) e.say (blob_thing fact.kind) fact.name = (x, fact, said, fact_stays e es fact given, refl, refl, refl, refl, refl, bad) in
-    let there : IsBad (e ∷ es) e.ask e.say Thing.Tree fact.name = subst (λ t. IsBad (e ∷ es) e.ask e.say t fact.name) kind (subst (λ q. IsBad (e ∷ es) q e.say (blob_thing fact.kind) fact.name) (sym is) at) in
+    let at : IsBad known (e ∷ es) (range_of fact) e.say (blob_thing fact.kind) fact.name = (x, fact, said, fact_stays e es fact given, refl, refl, refl, refl, refl, bad) in
+    let there : IsBad known (e ∷ es) e.ask e.say Thing.Tree fact.name = subst (λ t. IsBad known (e ∷ es) e.ask e.say t fact.name) kind (subst (λ q. IsBad known (e ∷ es) q e.say (blob_thing fact.kind) fact.name) (sym is) at) in
     subst (λ z. Concludes known PruneConcludes (e ∷ es) (Outcome.Ended z)) (sym same) (inl (inl there))
 tree_ended known k texts trees new fact e es end over a is roots (inr (x, promised, why)) =
     let more = walk_more k texts trees new fact e es x over a is promised roots in

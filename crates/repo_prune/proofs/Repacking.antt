@@ -15,7 +15,8 @@ use Rattle.repo_writing.specs.Filling.{WasOpen}
 use Rattle.repo_writing.specs.Sealing.{IsSealed}
 use Rattle.repo_writing.specs.Writing.{AreCounts}
 use Rattle.repo_writing.specs.declared.targets.Target.{Target}
-use Rattle.repo_prune.specs.Moving.{Pair, pair_of_item, pair_of_fact, items_so_far, IsMoving, AwaitsBlob, AwaitsStill, AreAdded, BlobWasAdded, IsFull, IsPrompt, MayBeSealed, StaysMoving}
+use Rattle.repo_prune.specs.Pruning.{Pair, pair_of_item, pair_of_fact}
+use Rattle.repo_prune.specs.Moving.{items_so_far, IsMoving, AwaitsBlob, AwaitsStill, AreAdded, BlobWasAdded, IsFull, IsPrompt, MayBeSealed, StaysMoving}
 use Rattle.repo_prune.specs.declared.moving.Moving.{Moving}
 
 -- where no pack is sealed, it has no blobs
@@ -119,6 +120,7 @@ awaits_again old mid new fact sent sealed a was stays =
       };
       listed = stays.listed ∙ ap (λ (v : Vec PackFacts Global). v.items) was.listed;
       moves = moves;
+      asked = asked;
     }
 
 -- a blob that was added already

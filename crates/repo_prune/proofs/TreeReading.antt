@@ -1,5 +1,5 @@
 -- The reading of the trees that snapshots reach.
-use Rattle.std.proofs.Common.{arith, Result, Ok, Err, OnErr, zero, suc, ◌≡◌, ◌++◌, ◌∷◌, [], ℕ, Bool, true, false, List, Some, None, slice_get, length, refl, sym, ap, subst, inl, inr, ⊎_elim, ◌∙◌, Contains}
+use Rattle.std.proofs.Common.{arith, Result, Ok, Err, OnErr, zero, suc, ◌≡◌, ◌≤◌, ◌++◌, ◌∷◌, [], ℕ, Bool, true, false, List, Some, None, slice_get, length, refl, sym, ap, subst, inl, inr, ⊎_elim, ◌∙◌, Contains}
 use Rattle.std.proofs.lemmas.List.{length-append}
 use Rattle.std.proofs.lemmas.List.Elements.{Contains-append_left, Contains-append_right}
 use Rattle.repo_name.specs.Naming as naming
@@ -16,6 +16,7 @@ use Rattle.repo_tree.specs.declared.nodes.Node.{Node}
 use Rattle.repo_tree.specs.declared.nodes.NodeKind.{NodeKind}
 use Rattle.repo_name.proofs.Containing.{none_contained, first_contained, contained_or, flat_contains}
 use Rattle.repo_session.proofs.Descending.{under_grows}
+use Rattle.repo_session.proofs.Reaching.{under_reached}
 use Rattle.repo_session.specs.Trees.{Under, IsNoText, IsBroken}
 use Rattle.repo_session.specs.declared.outcomes.End.{End}
 use Rattle.repo_reach.proofs.Leading.{goes_push}
@@ -90,23 +91,23 @@ module _ (facts : List Fact) (texts : List (List ℕ)) (trees : Trees) where
   abbrev roots : List Root
   roots = trees.roots.items
 
-  bad : (follows : Bool) (top tree : Name) (path : List (List ℕ)) → Contains roots (record { tree = top; follows = follows }) → Under (version_by follows) B top path tree → IsBroken (version_by follows) B top path tree
+  bad : (follows : Bool) (top tree : Name) (path : List (List ℕ)) → Contains roots (record { tree = top; follows = follows }) → length path ≤ greatest_depth → Under (version_by follows) B top path tree → IsBroken (version_by follows) B top path tree
       → CannotGoOn facts B roots (End.BadObject Thing.Tree tree)
-  bad follows top tree path among under broken = (refl, (record { tree = top; follows = follows }, among, (path, under, broken)))
+  bad follows top tree path among shallow under broken = (refl, (record { tree = top; follows = follows }, among, (path, shallow, under, broken)))
 
   too_low : (n : Name) → IsTooLow texts roots n → CannotGoOn facts B roots (End.BadObject Thing.Tree n)
   too_low n h =
       let p = path_to texts roots h.follows greatest_depth n h.leads in
       let long = p.long in
-      bad h.follows p.top n p.path p.among p.under (inr (inl (h.nodes, h.lists, h.some, omega (arith, long))))
+      bad h.follows p.top n p.path p.among (omega (arith, long)) p.under (inr (inl (h.nodes, h.lists, h.some, omega (arith, long))))
 
   malformed : (n : Name) → IsMalformed texts roots n → CannotGoOn facts B roots (End.BadObject Thing.Tree n)
-  malformed n h = let p = path_to texts roots true h.depth n h.leads in bad true p.top n p.path p.among p.under (inl (h.text, (refl, h.among), h.called, h.no_part))
+  malformed n h = let p = path_to texts roots true h.depth n h.leads in bad true p.top n p.path p.among (subst (λ d. d ≤ greatest_depth) (sym p.long) h.within) p.under (inl (h.text, (refl, h.among), h.called, h.no_part))
 
   misplaced : (n : Name) → IsMisplaced texts roots n → CannotGoOn facts B roots (End.BadObject Thing.Tree n)
   misplaced n h =
       let p = path_to texts roots true h.depth h.part h.leads in
-      bad true p.top n p.path p.among (under_onward B p.top p.path h.part h.nodes n p.under h.before) (inr (inr (h.part, p.under, (h.nodes, h.behind, h.next, h.before, h.after, h.wrong))))
+      bad true p.top n p.path p.among (subst (λ d. d ≤ greatest_depth) (sym p.long) h.within) (under_onward B p.top p.path h.part h.nodes n p.under h.before) (inr (inr (h.part, p.under, (h.nodes, h.behind, h.next, h.before, h.after, h.wrong))))
 
   pub asked : (fact : Fact) → Walks facts texts trees → TurnIs facts texts trees (turn.Ask fact) → WalksOn facts texts trees (Walked.Ask fact)
   asked fact w h = record { walks = w; next = h }
@@ -114,7 +115,7 @@ module _ (facts : List Fact) (texts : List (List ℕ)) (trees : Trees) where
   pub was_missing : (n : Name) → TurnIs facts texts trees (turn.Missing n) → WalksOn facts texts trees (Walked.Ended (End.Missing Thing.Tree n))
   was_missing n h =
       let p = path_to texts roots h.2.0 h.2.1 n h.2.3 in
-      (Tree, refl, h.0, (record { tree = p.top; follows = h.2.0 }, p.among, (p.path, p.under)))
+      (Tree, refl, h.0, (record { tree = p.top; follows = h.2.0 }, p.among, under_reached (version_by h.2.0) B p.top p.path n (subst (λ d. d ≤ greatest_depth) (sym p.long) h.2.2) p.under))
 
   pub was_broken : (n : Name) → TurnIs facts texts trees (turn.Broken n) → WalksOn facts texts trees (Walked.Ended (End.BadObject Thing.Tree n))
   was_broken n (inl h) = too_low n h
@@ -209,7 +210,7 @@ no_tree facts texts trees fact name x a is named none =
     let p = path_to texts trees.roots.items follows a.next.3.1 fact.name a.next.3.3 in
     let more = texts ++ x ∷ [] in
     let under = under_grows (version_by follows) (tree_blobs texts) (tree_blobs more) (texts_grow texts x) p.top p.path fact.name p.under in
-    bad facts more trees follows p.top name p.path p.among (subst (Under (version_by follows) (tree_blobs more) p.top p.path) is under)
+    bad facts more trees follows p.top name p.path p.among (subst (λ d. d ≤ greatest_depth) (sym p.long) a.next.3.2) (subst (Under (version_by follows) (tree_blobs more) p.top p.path) is under)
     (inl (x, (refl, Contains-append_right texts (x ∷ []) x (first_contained x [])), named, no_text follows x none))
 
 -- what comes of the promised bytes

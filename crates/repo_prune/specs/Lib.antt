@@ -1,5 +1,6 @@
 -- The definitions that the contracts of this crate cite.
 pub mod Keeping
+pub mod Ascending
 pub mod Forgetting
 pub mod ForgetStates
 pub mod Pruning

@@ -1,7 +1,5 @@
 -- What is known while a prune moves blobs to new packs.
 use Rattle.std.specs.Prelude.{◌≡◌, ◌≢◌, ◌≤◌, ◌⊎◌, ◌+◌, ◌++◌, ◌∷◌, [], List, length, map, take, slice_get, Some, None, ℕ}
-use Rattle.repo_name.specs.declared.kinds.BlobKind.{BlobKind}
-use Rattle.repo_name.specs.declared.names.Name.{Name}
 use Rattle.repo_pack.specs.PackLayout.{Item, IsBlobLength}
 use Rattle.repo_pack.specs.PackWriting.{IsDue, IsOpen}
 use Rattle.repo_pack.specs.declared.writers.Sealed.{Sealed}
@@ -10,20 +8,9 @@ use Rattle.repo_index.specs.declared.facts.PackFacts.{PackFacts}
 use Rattle.repo_writing.specs.Filling.{WasOpen, IsJustDue}
 use Rattle.repo_writing.specs.Sealing.{IsSealed, IsListedAs}
 use Rattle.repo_writing.specs.Writing.{AreCounts}
+use Rattle.repo_prune.specs.Pruning.{pair_of_item, pair_of_fact}
 use Rattle.repo_prune.specs.declared.moving.Moved.{Moved}
 use Rattle.repo_prune.specs.declared.moving.Moving.{Moving}
-
--- a blob's kind and name
-pub record Pair : Type 0 where
-  pub kind : BlobKind
-  pub name : Name
-
--- those of a blob in a pack, and those of a fact
-abbrev pub pair_of_item : Item → Pair
-pair_of_item item = record { kind = item.kind; name = item.name }
-
-abbrev pub pair_of_fact : Fact → Pair
-pair_of_fact fact = record { kind = fact.kind; name = fact.name }
 
 -- the blobs so far: those of the packs sent, of the pack that is sealed, and of the pack that is being written
 abbrev pub items_so_far : List Item → List Item → Moving → List Item
@@ -78,9 +65,9 @@ pub record SendsPack (sent : List Item) (old : List PackFacts) (sealed : Sealed)
   pub prompt : IsPrompt new items
   pub full : IsFull new items ⊎ AreAdded new
 
--- what comes next: a pack; a blob; or nothing, once all were sent
+-- what comes next: a pack; a blob, the first that wasn't added, while the pack that is being written is open; or nothing, once all were sent
 abbrev pub MovesOn : List Item → List PackFacts → Moved → Moving → Type 0
-MovesOn sent old (Moved.Ask fact) new = AwaitsBlob new fact sent [] × (new.listed.items ≡ old)
+MovesOn sent old (Moved.Ask fact) new = AwaitsBlob new fact sent [] × (new.listed.items ≡ old) × (new.added ≡ new.asked) × IsOpen new.packer.writer
 MovesOn sent old (Moved.Put sealed) new = SendsPack sent old sealed new
 MovesOn sent old Moved.Done new = IsMoving new sent [] × (new.packer.writer.items ≡ []) × (length new.moves.items ≤ new.added) × (new.listed.items ≡ old)
 MovesOn sent old Moved.Nothing new = ⊥
@@ -94,12 +81,13 @@ pub record StaysMoving (old new : Moving) (sent : List Item) : Type 0 where
   pub added : new.added ≡ old.added
   pub asked : new.asked ≡ old.asked
 
--- where memory was wanting, the blob that was awaited is awaited
+-- where memory was wanting, the blob that was awaited is awaited, at the same place
 pub record AwaitsStill (old new : Moving) (fact : Fact) (sent : List Item) : Type 0 where
   pub sealed : List Item
   pub awaits : AwaitsBlob new fact sent sealed
   pub listed : new.listed.items ≡ old.listed.items
   pub moves : new.moves ≡ old.moves
+  pub asked : new.asked ≡ old.asked
 
 -- a blob was added to the pack that is being written
 pub record BlobWasAdded (old new : Moving) (sent sealed : List Item) : Type 0 where
@@ -120,3 +108,7 @@ AddsBlob fact old new = (sent sealed : List Item) → AwaitsBlob old fact sent s
 -- and it goes on
 abbrev pub MovesBlob : Fact → List ℕ → Moving → Moved → Moving → Type 0
 MovesBlob fact bytes old moved new = (sent sealed : List Item) → AwaitsBlob old fact sent sealed → IsBlobLength (length bytes) → MovesOn sent old.listed.items moved new
+
+-- and it is the last one that was added
+abbrev pub AddsAwaited : Fact → List ℕ → Moving → Moving → Type 0
+AddsAwaited fact bytes old new = (sent sealed : List Item) → AwaitsBlob old fact sent sealed → IsBlobLength (length bytes) → new.added ≡ old.asked + 1

@@ -1,6 +1,8 @@
 -- What is known while a prune goes on.
-use Rattle.std.specs.Prelude.{⊤, ◌≡◌, ◌≤◌, ◌⊎◌, ◌↔◌, ◌++◌, ◌∷◌, [], ℕ, true, false, List, length, map, take, slice_get, Some, Contains}
+use Rattle.std.specs.Prelude.{⊤, ◌≡◌, ◌≢◌, ◌≤◌, ◌⊎◌, ◌↔◌, ◌++◌, ◌∷◌, [], ℕ, true, false, List, length, map, take, slice_get, Some, Contains}
 use Rattle.std.specs.List.Sorted.{IsStrictlySortedBy}
+use Rattle.std.specs.List.{AllPairs}
+use Rattle.repo_name.specs.Naming as naming
 use Rattle.repo_name.specs.Naming.{name_cmp}
 use Rattle.repo_name.specs.declared.kinds.BlobKind.{BlobKind}
 use Rattle.repo_name.specs.declared.kinds.BlobKind.TheVariants.{Tree}
@@ -11,6 +13,7 @@ use Rattle.repo_wire.specs.declared.messages.Ask.{Ask}
 use Rattle.repo_wire.specs.declared.messages.Say.{Say}
 use Rattle.repo_pack.specs.PackLayout.{Item}
 use Rattle.repo_index.specs.IndexText.{facts_in, IsIndexText}
+use Rattle.repo_index.specs.Order.{place_first}
 use Rattle.repo_index.specs.declared.facts.Fact.{Fact}
 use Rattle.repo_index.specs.declared.facts.PackFacts.{PackFacts}
 use Rattle.repo_tree.specs.declared.configs.Config.{Config}
@@ -32,20 +35,19 @@ use Rattle.repo_session.specs.Rolls.{IsPaged, Rolls}
 use Rattle.repo_session.specs.Sessions.{FitsSession}
 use Rattle.repo_session.specs.declared.sessions.Session.{Session}
 use Rattle.repo_session.specs.Told.{AskedToPut}
-use Rattle.repo_session.specs.Traces.{Each, Object, Trace, silent, names_in, objects_put, IsListed, Lists, ReadFact}
+use Rattle.repo_session.specs.Traces.{Each, Object, Trace, WasAsked, silent, names_in, objects_put, IsListed, Lists, ReadFact}
 use Rattle.repo_reach.specs.Collected.{root_of}
 use Rattle.repo_reach.specs.Laws.{IsWholeWalk}
 use Rattle.repo_reach.specs.declared.trees.Trees.{Trees}
 use Rattle.repo_writing.specs.Blobs.{HasFact, AreFactsOnce}
 use Rattle.repo_writing.specs.Filling.{HasConfig}
-use Rattle.repo_writing.specs.Laws.{IsPutOrKept}
-use Rattle.repo_writing.specs.Putting.{AreCounted, IsKeptPack}
+use Rattle.repo_writing.specs.Putting.{AreCounted}
 use Rattle.repo_writing.specs.Sealing.{IsSealedOf}
 use Rattle.repo_writing.specs.Writing.{Put, items_of, ArePut, AreListed, ListsPack}
 use Rattle.repo_writing.specs.declared.counts.Counts.{Counts}
 use Rattle.repo_prune.specs.Keeping.{Row}
 use Rattle.repo_prune.specs.Moving.{IsMoving, AwaitsBlob}
-use Rattle.repo_prune.specs.Pruning.{prune_rule, prune_task, IsUntouched, AreTrees, IsNeededBy, AreWalked, MustMoveBy, AreCovered, IsSettled, PruneConcludes}
+use Rattle.repo_prune.specs.Pruning.{prune_rule, prune_task, IsUntouched, AreTrees, IsNeededBy, AreWalked, MayStayBy, MustMoveBy, AreLastMoved, IsPutOrStays, WasReceived, AreFewParts, parts_asked, AscendByName, AreCovered, IsSettled, PruneConcludes}
 use Rattle.repo_prune.specs.Reading.{Walks, Awaits, HasTaken}
 use Rattle.repo_prune.specs.Relisting.{AreListable}
 use Rattle.repo_prune.specs.declared.deleting.Deleting.{Deleting}
@@ -57,6 +59,12 @@ use Rattle.repo_prune.specs.declared.prunes.Stage.{Stage}
 use Rattle.repo_prune.specs.declared.relisting.Relisting.{Relisting}
 
 -- ---- what was listed and read
+
+-- nothing was put, nothing deleted, and no part of a pack asked for
+pub record HasOnlyListed (es : Trace) : Type 0 where
+  pub none_put : (k : Kind) → objects_put k es ≡ []
+  pub none_deleted : NoneDeleted es
+  pub none_ranged : (pack : Name) (offset len : ℕ) → ¬ WasAsked es (Ask.Range pack offset len)
 
 -- the config was read, and wants packs of so many bytes
 abbrev pub HasTarget : Trace → ℕ → Type 0
@@ -81,12 +89,15 @@ pub record HaveRead (k : Known) (es : Trace) : Type 0 where
 
 -- ---- trees
 
--- a walk over trees that were received, from the roots of all snapshots, each of its version
+-- a walk over just the trees that were received, no two of one name, from the roots of all snapshots, each of its version; a part of a pack was asked for once for each
 pub record IsWalkOver (k : Known) (texts : List (List ℕ)) (trees : Trees) (es : Trace) : Type 0 where
   pub read : HaveRead k es
   pub untouched : IsUntouched es
   pub roots : trees.roots.items ≡ map (λ (row : Row). root_of row.1.tree row.1.version) k.rows
   pub received : (x : List ℕ) → Contains texts x → Received es Tree x
+  pub all : (x : List ℕ) → Received es Tree x → Contains texts x
+  pub apart : AllPairs (λ (x y : List ℕ). naming.name x ≢ naming.name y) texts
+  pub parts : parts_asked es ≤ length texts
 
 -- the tree of this fact was asked for
 pub record KnowsWalking (k : Known) (trees : Trees) (fact : Fact) (ask : Ask) (es : Trace) : Type 0 where
@@ -104,7 +115,7 @@ pub record HasWalked (k : Known) (trees : Trees) (es : Trace) : Type 0 where
 
 -- ---- the plan
 
--- These packs stay, and just these blobs move, those that have to: there are trees that were received, in which each tree that a snapshot reaches is there; and what snapshots reach in
+-- These packs stay, and just these blobs move, those that have to, by their places: there are trees that were received, in which each tree that a snapshot reaches is there; and what snapshots reach in
 -- them are just the pairs of these facts, no two of which are of one pair.
 pub record ArePlanned (k : Known) (kept : List PackFacts) (moves : List Fact) (es : Trace) : Type 0 where
   pub texts : List (List ℕ)
@@ -113,16 +124,18 @@ pub record ArePlanned (k : Known) (kept : List PackFacts) (moves : List Fact) (e
   pub given : (kind : BlobKind) (n : Name) → IsNeededBy k.rows texts kind n → HasFact (facts_in kept ++ moves) kind n
   pub just : (fact : Fact) → Contains (facts_in kept ++ moves) fact → IsNeededBy k.rows texts fact.kind fact.name
   pub once : AreFactsOnce (facts_in kept ++ moves)
-  pub kept_are : (listed : PackFacts) → Contains kept listed → IsKeptPack es listed
+  pub kept_are : (listed : PackFacts) → Contains kept listed → MayStayBy (IsNeededBy k.rows texts) k.facts listed
   pub listable : AreListable kept
   pub moves_are : (fact : Fact) → Contains moves fact → ReadFact es fact
   pub must : (fact : Fact) → Contains moves fact ↔ MustMoveBy (IsNeededBy k.rows texts) k.facts fact
+  pub ascend : IsStrictlySortedBy place_first moves
 
--- it is planned, and nothing was put yet
+-- it is planned, nothing was put yet, and no part of a pack asked for but once for each tree
 pub record HasPlanned (k : Known) (kept : List PackFacts) (moves : List Fact) (es : Trace) : Type 0 where
   pub read : HaveRead k es
   pub untouched : IsUntouched es
   pub planned : ArePlanned k kept moves es
+  pub parts : AreFewParts es 0
 
 -- ---- moving
 
@@ -139,7 +152,16 @@ pub record IsRepacking (k : Known) (m : Moving) (puts next : List Put) (es : Tra
   pub listed : m.listed.items ≡ kept ++ map (λ (p : Put). p.listed) (puts ++ next)
   pub aim : m.packer.target.bytes ≡ k.target
 
--- a blob was asked for
+-- the blobs of these facts were received
+abbrev pub AreReceived : Trace → List Fact → Type 0
+AreReceived es facts = (fact : Fact) → Contains facts fact → WasReceived es fact.kind fact.name
+
+-- the first so many of these were, and no part of a pack was asked for but once for each of them, and for each tree
+pub record HaveCome (es : Trace) (moves : List Fact) (count : ℕ) : Type 0 where
+  pub received : AreReceived es (take count moves)
+  pub parts : AreFewParts es count
+
+-- a blob was asked for, and those before it were received
 pub record KnowsMove (k : Known) (m : Moving) (ask : Ask) (es : Trace) : Type 0 where
   pub puts : List Put
   pub sealed : List Item
@@ -147,8 +169,9 @@ pub record KnowsMove (k : Known) (m : Moving) (ask : Ask) (es : Trace) : Type 0 
   pub repacking : IsRepacking k m puts [] es
   pub awaits : AwaitsBlob m fact (items_of puts) sealed
   pub asks : ask ≡ range_of fact
+  pub received : HaveCome es m.moves.items m.asked
 
--- a pack is being put
+-- a pack is being put, and all blobs added so far were received
 pub record PrunePutsPack (k : Known) (m : Moving) (n : Name) (x : List ℕ) (es : Trace) : Type 0 where
   pub puts : List Put
   pub put : Put
@@ -156,6 +179,7 @@ pub record PrunePutsPack (k : Known) (m : Moving) (n : Name) (x : List ℕ) (es 
   pub repacking : IsRepacking k m puts (put ∷ []) es
   pub pack_is : put.pack ≡ record { name = n; bytes = x }
   pub moving : IsMoving m (items_of (puts ++ put ∷ [])) sealed
+  pub received : HaveCome es m.moves.items m.added
 
 -- all blobs are in packs that were put, which is done
 pub record HasMoved (k : Known) (m : Moving) (es : Trace) : Type 0 where
@@ -167,16 +191,18 @@ pub record HasMoved (k : Known) (m : Moving) (es : Trace) : Type 0 where
 
 -- ---- new indexes
 
--- the packs that stay and those that were put, which is done, give what the snapshots need
+-- each of the packs was put, which is done, or stays, they are in the order of their names, and they give what the snapshots need; and nothing more waits to be moved
 pub record ArePacked (k : Known) (packs : List PackFacts) (counts : Counts) (es : Trace) : Type 0 where
   pub read : HaveRead k es
   pub none : NoneDeleted es
   pub puts : List Put
   pub put : ArePut counts puts [] es
   pub stand : (p : Put) → Contains puts p → Contains packs p.listed
-  pub each : (listed : PackFacts) → Contains packs listed → IsPutOrKept es listed
-  pub listable : AreListable packs
   pub covered : AreCovered es k.rows packs
+  pub each : (listed : PackFacts) → Contains packs listed → IsPutOrStays es (IsNeededBy k.rows covered.texts) k.facts listed
+  pub moved : AreLastMoved (IsNeededBy k.rows covered.texts) k.facts es []
+  pub listable : AreListable packs
+  pub ascend : AscendByName packs
   pub unstored : objects_put Kind.Snapshot es ≡ []
 
 -- the names of the indexes that were put
@@ -246,7 +272,7 @@ pub record AreUnlisted (packs : Roll) (es : Trace) : Type 0 where
 
 -- snapshots are being read, and no page of indexes came
 pub record ReadsSnapshots (j : Prune) (ask : Ask) (es : Trace) : Type 0 where
-  pub untouched : IsUntouched es
+  pub untouched : HasOnlyListed es
   pub snapshots : KnowsSnapshots j.snapshots ask es
   pub indexes : Catalogs j.catalog false es
   pub none_read : j.catalog.roll.read ≡ 0
@@ -255,7 +281,7 @@ pub record ReadsSnapshots (j : Prune) (ask : Ask) (es : Trace) : Type 0 where
 
 -- snapshots were read, and indexes are being read
 pub record ReadsIndexes (j : Prune) (ask : Ask) (es : Trace) : Type 0 where
-  pub untouched : IsUntouched es
+  pub untouched : HasOnlyListed es
   pub snapshots : IsSnapshotListing es j.snapshots.rows.items
   pub indexes : KnowsIndexes j.catalog ask es
   pub packs : AreUnlisted j.packs es
@@ -263,7 +289,7 @@ pub record ReadsIndexes (j : Prune) (ask : Ask) (es : Trace) : Type 0 where
 
 -- indexes were read too, and packs are being listed
 pub record ListsPacks (j : Prune) (ask : Ask) (es : Trace) : Type 0 where
-  pub untouched : IsUntouched es
+  pub untouched : HasOnlyListed es
   pub snapshots : IsSnapshotListing es j.snapshots.rows.items
   pub indexes : Catalogs j.catalog true es
   pub all : IsAll j.catalog

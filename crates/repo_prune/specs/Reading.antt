@@ -1,5 +1,5 @@
 -- What is known while a prune reads trees.
-use Rattle.std.specs.Prelude.{◌≡◌, ◌≢◌, ◌⊎◌, ◌++◌, ◌∷◌, [], ⊤, ℕ, true, List, length, slice_get, Some, Contains}
+use Rattle.std.specs.Prelude.{◌≡◌, ◌≢◌, ◌≤◌, ◌⊎◌, ◌++◌, ◌∷◌, [], ⊤, ℕ, true, List, length, slice_get, Some, Contains}
 use Rattle.repo_name.specs.Naming as naming
 use Rattle.repo_name.specs.declared.kinds.BlobKind.{BlobKind}
 use Rattle.repo_name.specs.declared.kinds.BlobKind.TheVariants.{Tree}
@@ -8,10 +8,11 @@ use Rattle.repo_name.specs.declared.names.Name.{Name}
 use Rattle.repo_wire.specs.declared.messages.Say.{Say}
 use Rattle.repo_index.specs.declared.facts.Fact.{Fact}
 use Rattle.repo_tree.specs.Parts.{Blobs}
+use Rattle.repo_tree.specs.Spelling.{greatest_depth, Reach}
 use Rattle.repo_session.specs.Blobs.{range_of}
 use Rattle.repo_session.specs.Catalogs.{IsBlobNowhere}
 use Rattle.repo_session.specs.Ends.{blob_thing, IsBadBlob, IsUnwelcome}
-use Rattle.repo_session.specs.Trees.{Under, IsNeeded, IsBroken}
+use Rattle.repo_session.specs.Trees.{Under, IsBroken}
 use Rattle.repo_session.specs.declared.outcomes.End.{End}
 use Rattle.repo_reach.specs.Collected.{tree_blobs, version_by}
 use Rattle.repo_reach.specs.Joints.{SaysNext}
@@ -47,11 +48,11 @@ pub record Awaits (facts : List Fact) (texts : List (List ℕ)) (trees : Trees) 
   pub walks : Walks facts texts trees
   pub next : TurnIs facts texts trees (turn.Ask fact)
 
--- why it can't go on: no fact gives a tree that a root needs, or such a tree is broken, each by the version of the root's snapshot
+-- why it can't go on: no fact gives a blob that a root reaches, or a tree that a path of a root leads to is broken, each by the version of the root's snapshot
 abbrev pub CannotGoOn : List Fact → Blobs → List Root → End → Type 0
-CannotGoOn facts B roots (End.Missing thing name) = (kind : BlobKind) × (thing ≡ blob_thing kind) × IsBlobNowhere facts kind name × ((root : Root) × Contains roots root × IsNeeded (version_by root.follows) B root.tree kind name)
+CannotGoOn facts B roots (End.Missing thing name) = (kind : BlobKind) × (thing ≡ blob_thing kind) × IsBlobNowhere facts kind name × ((root : Root) × Contains roots root × Reach (version_by root.follows) B root.tree kind name)
 CannotGoOn facts B roots (End.BadObject thing tree) = (thing ≡ Thing.Tree)
-    × ((root : Root) × Contains roots root × ((path : List (List ℕ)) × Under (version_by root.follows) B root.tree path tree × IsBroken (version_by root.follows) B root.tree path tree))
+    × ((root : Root) × Contains roots root × ((path : List (List ℕ)) × (length path ≤ greatest_depth) × Under (version_by root.follows) B root.tree path tree × IsBroken (version_by root.follows) B root.tree path tree))
 CannotGoOn facts B roots _ = ⊥
 
 -- what comes next of it

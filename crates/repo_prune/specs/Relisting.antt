@@ -12,6 +12,7 @@ use Rattle.repo_index.specs.declared.facts.PackFacts.{PackFacts}
 use Rattle.repo_wire.specs.declared.messages.Ask.{Ask}
 use Rattle.repo_session.specs.declared.jobs.Step.{Step}
 use Rattle.repo_session.specs.Jobs.{IsShortStep}
+use Rattle.repo_prune.specs.Pruning.{AreCutInTime}
 use Rattle.repo_prune.specs.declared.relisting.Relisting.{Relisting}
 
 -- a pack may be listed with 1 to 4,096 facts of it, within range
@@ -31,8 +32,8 @@ pub record IsSameRelisting (old new : Relisting) : Type 0 where
   pub indexes : new.indexes.items ≡ old.indexes.items
   pub counts : new.counts ≡ old.counts
 
--- an index of the packs behind those that are listed is put, which has 20,000 blobs or more, or all packs are listed with it, and 24,095 at most; and its name
--- is noted
+-- an index of the packs behind those that are listed is put, which has 20,000 blobs or more, and without its last pack fewer, or all packs are listed with it,
+-- and 24,095 at most; and its name is noted
 pub record PutsNext (old : Relisting) (token : Token) (step : Step) (new : Relisting) : Type 0 where
   pub waiting : List PackFacts
   pub text : List ℕ
@@ -41,6 +42,7 @@ pub record PutsNext (old : Relisting) (token : Token) (step : Step) (new : Relis
   pub few : AreFew waiting
   pub short : length text ≤ index_limit
   pub behind : take new.listed new.packs.items ≡ take old.listed old.packs.items ++ waiting
+  pub cut : AreCutInTime waiting
   pub full : (facts_limit ≤ length (facts_in waiting)) ⊎ (length new.packs.items ≤ new.listed)
   pub puts : step ≡ Step.Ask (Ask.Put token Kind.Index (naming.name text) text)
   pub named : new.indexes.items ≡ old.indexes.items ++ naming.name text ∷ []

@@ -5,8 +5,7 @@ ghost use Rattle.repo_reach.specs.Collected.{root_of};
 ghost use Rattle.repo_session.specs.Jobs.{IsShortStep};
 ghost use Rattle.repo_session.specs.declared.jobs.Step.{Step};
 ghost use Rattle.repo_session.specs.declared.outcomes.Outcome.{Outcome};
-ghost use Rattle.repo_prune.specs.Pruning.{IsUntouched};
-ghost use Rattle.repo_prune.specs.PruneStates.{HaveRead, HasWalked, HasPlanned, HasMoved, HasListed, known_in, ComesAfter, MovesTo};
+ghost use Rattle.repo_prune.specs.PruneStates.{HasOnlyListed, HaveRead, HasWalked, HasPlanned, HasMoved, HasListed, known_in, ComesAfter, MovesTo};
 
 use crate::deciding::{Decided, decide};
 use crate::deleting::Deleting;
@@ -120,7 +119,7 @@ impl Prune {
 
     /// What comes once all is listed: trees are read. It fails for memory alone.
     pub fn after_lists(&self, token: Token) -> Result<Onward, AllocError>
-        ensures on { IfOk result (ComesAfter (known_in self.now) token (λ es. HaveRead (known_in self.now) es × IsUntouched es)) }
+        ensures on { IfOk result (ComesAfter (known_in self.now) token (λ es. HaveRead (known_in self.now) es × HasOnlyListed es)) }
         ensures short { IfOk result (λ onward. IsShortStep onward.step) }
     {
         let roots = roots_of(self.alloc, self.snapshots.rows.as_slice())?;

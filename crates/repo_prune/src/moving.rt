@@ -5,7 +5,7 @@ ghost use Rattle.repo_name.specs.Naming as naming;
 ghost use Rattle.repo_index.specs.declared.facts.Fact.{Fact};
 ghost use Rattle.repo_pack.specs.PackLayout.{Item, IsBlobLength};
 ghost use Rattle.repo_pack.specs.PackWriting.{IsOpen};
-ghost use Rattle.repo_prune.specs.Moving.{IsMoving, MayBeSealed, AwaitsBlob, MovesOn, StaysMoving, AwaitsStill, TakesMore, AddsBlob, MovesBlob};
+ghost use Rattle.repo_prune.specs.Moving.{IsMoving, MayBeSealed, AwaitsBlob, MovesOn, StaysMoving, AwaitsStill, TakesMore, AddsBlob, AddsAwaited, MovesBlob};
 
 use repo_index::{Fact, PackFacts};
 use repo_name::BLOB_LIMIT;
@@ -52,6 +52,7 @@ impl Moving {
         ensures listed { result.listed ≡ listed }
         ensures moves { result.moves ≡ moves }
         ensures target { result.packer.target ≡ target }
+        ensures added { result.added ≡ 0 }
     {
         Moving {
             moves,
@@ -103,6 +104,7 @@ impl Moving {
         ensures on { IfOk result (λ moved. (sent sealed : List Item) → IsMoving self.old sent sealed → MovesOn sent self.old.listed.items moved self.new) }
         ensures err { OnErr result ((sent sealed : List Item) → IsMoving self.old sent sealed → StaysMoving self.old self.new sent) }
         ensures moves { self.new.moves ≡ self.old.moves }
+        ensures added { self.new.added ≡ self.old.added }
         ensures target { self.new.packer.target ≡ self.old.packer.target }
     {
         let Some(listed) = self.packer.facts()? else {
@@ -124,6 +126,7 @@ impl Moving {
         ensures on { IfOk result (λ moved. (sent sealed : List Item) → IsMoving self.old sent sealed → MovesOn sent self.old.listed.items moved self.new) }
         ensures err { OnErr result ((sent sealed : List Item) → IsMoving self.old sent sealed → StaysMoving self.old self.new sent) }
         ensures moves { self.new.moves ≡ self.old.moves }
+        ensures added { self.new.added ≡ self.old.added }
         ensures target { self.new.packer.target ≡ self.old.packer.target }
     {
         if self.is_due() {
@@ -164,6 +167,7 @@ impl Moving {
         requires { fact.name ≡ naming.name bytes.now }
         ensures on { IfOk result (λ moved. MovesBlob fact bytes.now self.old moved self.new) }
         ensures err { OnErr result ((sent sealed : List Item) → AwaitsBlob self.old fact sent sealed → AwaitsStill self.old self.new fact sent) }
+        ensures added { IfOk result (λ moved. AddsAwaited fact bytes.now self.old self.new) }
         ensures moves { self.new.moves ≡ self.old.moves }
         ensures target { self.new.packer.target ≡ self.old.packer.target }
     {

@@ -8,6 +8,7 @@ ghost use Rattle.repo_name.specs.declared.tokens.Token.{Token};
 ghost use Rattle.repo_session.specs.Jobs.{IsShortStep};
 ghost use Rattle.repo_session.specs.declared.jobs.Step.{Step};
 ghost use Rattle.repo_wire.specs.declared.messages.Ask.{Ask};
+ghost use Rattle.repo_prune.specs.Pruning.{AscendByName};
 ghost use Rattle.repo_prune.specs.Relisting.{IsSameRelisting, Relists, IsShortRelisting};
 ghost use Rattle.repo_prune.specs.inner.Indexing.{NotesIndex};
 
@@ -41,9 +42,10 @@ fn name_put(step: &Step) -> Option<Name>
 }
 
 impl Relisting {
-    /// None of these packs is listed yet. It fails for memory alone.
+    /// None of these packs is listed yet; they are sorted by their names. It fails for memory alone.
     pub fn new(alloc: Global, packs: &[PackFacts], counts: Counts) -> Result<Relisting, AllocError>
         ensures packs { IfOk result (λ relisting. IsPermutation packs.now relisting.packs.items) }
+        ensures ascend { IfOk result (λ relisting. AscendByName relisting.packs.items) }
         ensures listed { IfOk result (λ relisting. relisting.listed ≡ 0) }
         ensures indexes { IfOk result (λ relisting. relisting.indexes.items ≡ []) }
         ensures counts { IfOk result (λ relisting. relisting.counts ≡ counts) }

@@ -34,12 +34,12 @@ part_through : (version : ℕ) (B : Blobs) (t part last : Name) → IsPartBy ver
 part_through (suc (suc zero)) B t part last h g = (h.0 ++ g.0, goes_through B t part last h.0 g.0 h.1 g.1)
 part_through _ B t part last h g = g ∙ h
 
-under_part : (version : ℕ) (B : Blobs) (root : Name) (path : List (List ℕ)) (t part : Name) → Under version B root path t → IsPartBy version B t part → Under version B root path part
+pub under_part : (version : ℕ) (B : Blobs) (root : Name) (path : List (List ℕ)) (t part : Name) → Under version B root path t → IsPartBy version B t part → Under version B root path part
 under_part version B root [] t part u on = part_through version B root t part u on
 under_part version B root (n ∷ path) t part u on = (u.0, u.1, under_part version B u.0 path t part u.2 on)
 
 -- a node of a directory stands at its path
-node_stands : (version : ℕ) (B : Blobs) (root : Name) (path : List (List ℕ)) (t : Name) (node : Node) → Under version B root path t → HasNode version B t node → IsNodeAt version B root (path ++ node.name ∷ []) node.what
+pub node_stands : (version : ℕ) (B : Blobs) (root : Name) (path : List (List ℕ)) (t : Name) (node : Node) → Under version B root path t → HasNode version B t node → IsNodeAt version B root (path ++ node.name ∷ []) node.what
 node_stands version B root path t node u h =
     record { above = path; name = node.name; tree = h.part; nodes = h.own; leads = under_part version B root path t h.part u h.belongs; read = h.lists; among = h.among; joined = refl }
 
@@ -56,7 +56,7 @@ chain_lists B t first (second ∷ more) node h c = elim (Contains-append_cases f
       record { part = r.part; own = r.own; belongs = (h.0 ∷ r.belongs.0, (first, h.1, r.belongs.1)); lists = r.lists; among = r.among }
 ]
 
-first_lists : (version : ℕ) (B : Blobs) (t : Name) (nodes : List Node) (node : Node) → HasFirstNodes version B t nodes → Contains nodes node → HasNode version B t node
+pub first_lists : (version : ℕ) (B : Blobs) (t : Name) (nodes : List Node) (node : Node) → HasFirstNodes version B t nodes → Contains nodes node → HasNode version B t node
 first_lists (suc (suc zero)) B t nodes node h c = chain_lists B t h.0 h.1 node h.3 (subst (λ ns. Contains ns node) (sym h.4) (Contains-append_left nodes h.2 node c))
 first_lists _ B t nodes node h c = record { part = t; own = nodes ++ h.0; belongs = refl; lists = h.1; among = Contains-append_left nodes h.0 node c }
 

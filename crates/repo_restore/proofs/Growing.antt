@@ -12,7 +12,8 @@ use Rattle.repo_session.specs.declared.emissions.Emission.{Emission}
 use Rattle.repo_session.proofs.Descending.{under_grows}
 use Rattle.repo_restore.specs.declared.nodes.Level.{Level}
 use Rattle.repo_restore.specs.Walking.{FileWaits, TreeWaitsBy, WaitsByKind, WalkWaits}
-use Rattle.repo_restore.specs.Walks.{PartIs, LeadsThrough, ComesBehind, nodes_in, IsOpenLevel, DirectoryIsBegun, LeadsOn}
+use Rattle.repo_restore.specs.Positions.{LeadsThrough, ComesBehind, nodes_in, ArePiecesOf}
+use Rattle.repo_restore.specs.Walks.{PartIs, IsOpenLevel, DirectoryIsBegun, LeadsOn}
 
 tree_grows : (B C : Blobs) → Grows B C → (t : Name) (nodes : List Node) → IsTree B t nodes → IsTree C t nodes
 tree_grows B C grows t nodes h = record { text = h.text; among = grows BlobKind.Tree h.text h.among; named = h.named; reads = h.reads }
@@ -40,6 +41,7 @@ open_grows version B C grows root first tree path nodes next begun inside h = re
   later = h.later;
   full = h.full;
   under = under_grows version B C grows root path tree h.under;
+  within = h.within;
   read = part_grows version B C grows tree nodes next h.read;
   ordered = h.ordered;
   shallow = h.shallow;
@@ -55,6 +57,10 @@ leads_grow : (version : ℕ) (B C : Blobs) → Grows B C → (root from : Name) 
 leads_grow version B C grows root from path outer [] tree last all h = h
 leads_grow version B C grows root from path outer (l ∷ levels) tree last all h =
     (h.0, h.1, h.2, h.3, begun_grows version B C grows root from l h.0 h.1 h.4, h.5, leads_grow version B C grows root h.2 _ _ levels tree last all h.6)
+
+pieces_grow : (B C : Blobs) → Grows B C → (names : List Name) (emitted : List Emission) → ArePiecesOf B names emitted → ArePiecesOf C names emitted
+pieces_grow B C grows [] emitted h = h
+pieces_grow B C grows (name ∷ names) emitted h = (h.0, h.1, grows BlobKind.Content h.0 h.2, h.3, h.4, pieces_grow B C grows names h.1 h.5)
 
 file_grows : (facts : List Fact) (version : ℕ) (B C : Blobs) → Grows B C → (root : Name) (levels : List Level) (sent : ℕ) (fact : Fact) (emitted : List Emission) → FileWaits facts version B root levels sent fact emitted
     → FileWaits facts version C root levels sent fact emitted
@@ -80,6 +86,7 @@ file_grows facts version B C grows root levels sent fact emitted h = record {
     even = h.part.even;
   };
   writing = h.writing;
+  pieces = pieces_grow B C grows (take sent h.content) h.writing.last h.pieces;
 }
 
 tree_waits_grows : (onward : Bool) (version : ℕ) (B C : Blobs) → Grows B C → (root : Name) (levels : List Level) (fact : Fact) (emitted : List Emission) → TreeWaitsBy onward version B root levels fact emitted → TreeWaitsBy onward version C root levels fact emitted
@@ -95,7 +102,7 @@ tree_waits_grows true version B C grows root levels fact emitted h = record {
   goes_on = h.goes_on;
   whole = h.whole;
 }
-tree_waits_grows false version B C grows root levels fact emitted h = (h.0, leads_grow version B C grows root root [] [] levels fact.name h.0 _ h.1, under_grows version B C grows root h.0 fact.name h.2)
+tree_waits_grows false version B C grows root levels fact emitted h = (h.0, leads_grow version B C grows root root [] [] levels fact.name h.0 _ h.1, under_grows version B C grows root h.0 fact.name h.2, h.3)
 
 kind_grows : (kind : BlobKind) (facts : List Fact) (version : ℕ) (B C : Blobs) → Grows B C → (root : Name) (levels : List Level) (sent : ℕ) (onward : Bool) (fact : Fact) (emitted : List Emission) → WaitsByKind kind facts version B root levels sent onward fact emitted
     → WaitsByKind kind facts version C root levels sent onward fact emitted

@@ -5,11 +5,14 @@ pub mod Beginnings
 pub mod Standing
 pub mod Closing
 pub mod Trees
-pub mod Begins
 pub mod Passing
+pub mod Positioning
+pub mod Begins
+pub mod Moving
 pub mod Growing
-pub mod Needing
 pub mod Advancing
 pub mod Firsts
+pub mod Nexts
+pub mod Indexed
 pub mod Replied
 pub mod RestoreRuns

@@ -8,7 +8,6 @@ use Rattle.std.specs.Cmp.Lexicographic.{slice_cmp}
 use Rattle.repo_tree.proofs.OrderLemmas.{last_name_is}
 use Rattle.repo_name.specs.Naming as naming
 use Rattle.repo_name.specs.declared.kinds.BlobKind.{BlobKind}
-use Rattle.repo_name.specs.declared.kinds.Thing.{Thing}
 use Rattle.repo_name.specs.declared.names.Name.{Name}
 use Rattle.repo_index.specs.declared.facts.Fact.{Fact}
 use Rattle.repo_index.specs.Lookups.{IsLeast}
@@ -26,17 +25,17 @@ use Rattle.repo_session.specs.Traces.{Each}
 use Rattle.repo_restore.specs.declared.nodes.Begun.{Begun}
 use Rattle.repo_restore.specs.declared.nodes.Level.{Level}
 use Rattle.repo_restore.specs.Nodes.{WaitsFor, BlobFollows}
-use Rattle.repo_session.specs.Trees.{Under, IsNodeAt, IsNeeded, IsNoText, GoesWrong}
+use Rattle.repo_session.specs.Trees.{Under, IsNoText, GoesWrong, IsBroken}
 use Rattle.repo_restore.specs.Restoring.{counted, Sums}
-use Rattle.repo_restore.specs.Walking.{WaitsIn, WaitsBehind, WaitsAs, with_begun, IsNextPath, MayFollow, FileWaits, TreeWaits, PartWaits, TreeWaitsBy, WaitsByKind, WalkWaits, WalkEnds}
-use Rattle.repo_restore.specs.Walks.{PartIs, LeadsThrough, ComesBehind, HaveNodes, LaterHaveNodes, nodes_in, IsOpenLevel, DirectoryIsBegun, IsFile, IsWriting, LeadsOn, AtLevel, AtOpen, WalkGives, is_open, WalkGave, WalkStopped}
+use Rattle.repo_restore.specs.Walking.{WaitsIn, WaitsBehind, WaitsAs, with_begun, IsNextPath, MayFollow, FileWaits, TreeWaits, PartWaits, TreeWaitsBy, WaitsByKind, WalkWaits, IsBrokenTree}
+use Rattle.repo_restore.specs.Positions.{LeadsThrough, ComesBehind, HaveNodes, LaterHaveNodes, nodes_in, ArePiecesOf}
+use Rattle.repo_restore.specs.Walks.{PartIs, IsOpenLevel, DirectoryIsBegun, IsFile, IsWriting, LeadsOn, AtLevel, AtOpen, WalkGives, is_open, WalkGave}
 use Rattle.repo_session.proofs.Descending.{under_more}
-use Rattle.repo_restore.proofs.Rebuilds.{rebuilt_length, writing_more, writing_done}
+use Rattle.repo_restore.proofs.Rebuilds.{rebuilt_length, writing_more, more_last, writing_done, pieces_push}
 use Rattle.repo_restore.proofs.Flows.{follow_both, piece_follows}
-use Rattle.repo_restore.proofs.Standing.{file_first}
-use Rattle.repo_restore.proofs.Summing.{one_more, sums_drop}
+use Rattle.repo_restore.proofs.Summing.{one_more, sums_drop, dropped_place}
 use Rattle.repo_name.proofs.Containing.{contains_got}
-use Rattle.repo_restore.proofs.Trees.{LastOpen, part_lists, part_ordered, no_next, under_onward, leads_push, leads_pop, node_at, open_more}
+use Rattle.repo_restore.proofs.Trees.{LastOpen, part_lists, part_ordered, no_next, under_onward, leads_push, leads_pop, open_shallow, below_shallow, open_more}
 use Rattle.repo_tree.proofs.SpellingLemmas.{joined_push}
 
 -- what is counted goes on
@@ -67,7 +66,12 @@ module _ (facts : List Fact) (version : ℕ) (B : Blobs) (root first : Name) (le
         whole = h.1;
       } in
       let among : Contains level.nodes.items (record { name = w.node.name; what = NodeKind.Dir fact.name }) = (let P : NodeKind → Type 0 = λ what. Contains level.nodes.items (record { name = w.node.name; what = what }) in subst P dir (contains_got level.nodes.items w.at w.node w.node_is)) in
-      let waits : TreeWaits version B root (levels ++ now ∷ []) fact (old ++ out) = (path, leads_push version B root root [] [] levels now fact.name path (rebuilt (old ++ out)) last, under_more version B root level.path level.tree level.nodes.items w.node.name fact.name w.opened.under (part_lists version B level.tree level.nodes.items level.next w.opened.read) among) in
+      let waits : TreeWaits version B root (levels ++ now ∷ []) fact (old ++ out) = (
+        path,
+        leads_push version B root root [] [] levels now fact.name path (rebuilt (old ++ out)) last,
+        under_more version B root level.path level.tree level.nodes.items w.node.name fact.name w.opened.under (part_lists version B level.tree level.nodes.items level.next w.opened.read) among,
+        below_shallow level.path w.node.name (open_shallow version B root first level.tree level.path level.nodes.items level.next w.at w.at w.inside w.node w.opened w.node_is),
+      ) in
       (least_of facts BlobKind.Tree subtree fact h.0, subst (λ k. WaitsByKind k facts version B root (levels ++ now ∷ []) 0 false fact (old ++ out)) (sym h.0.0) waits)
   waits_by (NodeKind.File size content) w leads is h =
       let now : Level = with_begun level begun in
@@ -87,7 +91,8 @@ module _ (facts : List Fact) (version : ℕ) (B : Blobs) (root first : Name) (le
         file = is;
         asked = h.0;
         part = record { joined = refl; left = size; sums = h.2; even = omega arith };
-        writing = h.3;
+        writing = h.3.0;
+        pieces = h.3.1;
       } in
       (least_of facts BlobKind.Content fact.name fact h.1, subst (λ k. WaitsByKind k facts version B root (levels ++ now ∷ []) 0 false fact (old ++ out)) (sym h.1.0) waits)
 
@@ -183,10 +188,10 @@ none_before : (nodes : List Node) (parts : List (List Node)) → parts ≡ [] �
 none_before nodes parts none some = absurd (some none)
 
 -- a tree's nodes are entered
-pub entered : (version : ℕ) (B : Blobs) (root tree : Name) (levels : List Level) (level : Level) (path : List (List ℕ)) (old : List Emission) → LeadsOn version B root root [] [] levels tree path (rebuilt old) → Under version B root path tree
+pub entered : (version : ℕ) (B : Blobs) (root tree : Name) (levels : List Level) (level : Level) (path : List (List ℕ)) (old : List Emission) → LeadsOn version B root root [] [] levels tree path (rebuilt old) → Under version B root path tree → length path ≤ greatest_depth
     → PartIs version B tree level.nodes.items level.next → level.tree ≡ tree → level.path ≡ path → (length path < greatest_depth) ⊎ (level.nodes.items ≡ [])
     → AtOpen version B root (levels ++ level ∷ []) (length (levels ++ level ∷ [])) 0 (rebuilt (old ++ []))
-entered version B root tree levels level path old leads under read t p shallow =
+entered version B root tree levels level path old leads under within read t p shallow =
     opened_behind version B root tree levels level (rebuilt old) [] old (subst (λ q. LeadsOn version B root root [] [] levels tree q (rebuilt old)) (sym p) leads)
     (record {
       parts = [];
@@ -194,6 +199,7 @@ entered version B root tree levels level path old leads under read t p shallow =
       later = tt;
       full = none_before level.nodes.items [] refl;
       under = subst (λ n. Under version B root level.path n) (sym t) (subst (λ q. Under version B root q tree) (sym p) under);
+      within = subst (λ (q : List (List ℕ)). length q ≤ greatest_depth) (sym p) within;
       read = subst (λ n. PartIs version B n level.nodes.items level.next) (sym t) read;
       ordered = part_ordered version B tree level.nodes.items level.next read;
       shallow = subst (λ q. (length q < greatest_depth) ⊎ (level.nodes.items ≡ [])) (sym p) shallow;
@@ -207,7 +213,7 @@ through_push : (B : Blobs) (first : Name) (parts : List (List Node)) (tree next 
 through_push B first [] tree next nodes h p = (next, subst (λ n. IsPart B n nodes (Some next)) h p, refl)
 through_push B first (own ∷ parts) tree next nodes h p = (h.0, h.1, through_push B h.0 parts tree next nodes h.2 p)
 
-behind_push : (version : ℕ) (B : Blobs) (first : Name) (parts : List (List Node)) (tree next : Name) (nodes : List Node) → ComesBehind version B first parts tree → PartIs version B tree nodes (Some next) → ComesBehind version B first (parts ++ nodes ∷ []) next
+pub behind_push : (version : ℕ) (B : Blobs) (first : Name) (parts : List (List Node)) (tree next : Name) (nodes : List Node) → ComesBehind version B first parts tree → PartIs version B tree nodes (Some next) → ComesBehind version B first (parts ++ nodes ∷ []) next
 behind_push (suc (suc zero)) B first parts tree next nodes h p = through_push B first parts tree next nodes h p
 behind_push _ B first parts tree next nodes h p = absurd (no_next next p.1)
 
@@ -215,11 +221,11 @@ have_push : (parts : List (List Node)) (nodes : List Node) → HaveNodes parts �
 have_push [] nodes h some = (some, tt)
 have_push (own ∷ parts) nodes h some = (h.0, have_push parts nodes h.1 some)
 
-later_push : (parts : List (List Node)) (nodes : List Node) → LaterHaveNodes parts → (parts ≢ [] → nodes ≢ []) → LaterHaveNodes (parts ++ nodes ∷ [])
+pub later_push : (parts : List (List Node)) (nodes : List Node) → LaterHaveNodes parts → (parts ≢ [] → nodes ≢ []) → LaterHaveNodes (parts ++ nodes ∷ [])
 later_push [] nodes h full = tt
 later_push (first ∷ parts) nodes h full = have_push parts nodes h (full (λ e. absurd (cc)))
 
-nodes_push_part : (parts : List (List Node)) (nodes : List Node) → nodes_in (parts ++ nodes ∷ []) ≡ nodes_in parts ++ nodes
+pub nodes_push_part : (parts : List (List Node)) (nodes : List Node) → nodes_in (parts ++ nodes ∷ []) ≡ nodes_in parts ++ nodes
 nodes_push_part [] nodes = append-nil nodes
 nodes_push_part (own ∷ parts) nodes = ap (λ ns. own ++ ns) (nodes_push_part parts nodes) ∙ sym (append_assoc own (nodes_in parts) nodes)
 
@@ -271,6 +277,7 @@ entered_part version B root levels level fact old h read t p shallow may =
       later = later_push o.parts own o.later o.full;
       full = λ some_parts. some;
       under = subst (λ n. Under version B root level.path n) (sym t) (subst (λ q. Under version B root q fact.name) (sym p) (under_onward version B root h.level.path h.level.tree own fact.name o.under part));
+      within = subst (λ (q : List (List ℕ)). length q ≤ greatest_depth) (sym p) o.within;
       read = subst (λ n. PartIs version B n level.nodes.items level.next) (sym t) read;
       ordered = order;
       shallow = ⊎_elim (λ few. inl few) (λ none. absurd (some none)) shallow;
@@ -294,23 +301,14 @@ misplaced nodes [] wrong = inl refl
 misplaced nodes (first ∷ more) wrong = inr (λ o. wrong (last_less nodes first more o))
 
 pub part_refused : (facts : List Fact) (version : ℕ) (B : Blobs) (root : Name) (levels : List Level) (fact : Fact) (old : List Emission) (nodes : List Node) (next : Option Name) (h : PartWaits version B root levels fact old) → PartIs version B fact.name nodes next
-    → ((greatest_depth ≤ length h.level.path) × (nodes ≢ [])) ⊎ ¬ MayFollow h.level.nodes.items nodes → WalkEnds facts version B root (End.BadObject Thing.Tree fact.name)
-part_refused facts version B root levels fact old nodes next h read (inl deep) =
+    → ((greatest_depth ≤ length h.level.path) × (nodes ≢ [])) ⊎ ¬ MayFollow h.level.nodes.items nodes → IsBrokenTree version B root fact.name
+part_refused facts version B root levels fact old nodes next h read why =
     let part = subst (λ n. PartIs version B h.level.tree h.level.nodes.items n) h.goes_on h.opened.read in
-    (refl, (h.level.path, under_onward version B root h.level.path h.level.tree h.level.nodes.items fact.name h.opened.under part, inl (inr (inl (nodes, part_lists version B fact.name nodes next read, deep.1, deep.0)))))
-part_refused facts version B root levels fact old nodes next h read (inr wrong) =
-    let part = subst (λ n. PartIs version B h.level.tree h.level.nodes.items n) h.goes_on h.opened.read in (
-      refl,
-      (
-        h.level.path,
-        under_onward version B root h.level.path h.level.tree h.level.nodes.items fact.name h.opened.under part,
-        inl (inr (inr (
-          h.level.tree,
-          h.opened.under,
-          goes_wrong version B h.level.tree fact.name h.level.nodes.items nodes next part read (misplaced h.level.nodes.items nodes wrong),
-        ))),
-      ),
-    )
+    (h.level.path, under_onward version B root h.level.path h.level.tree h.level.nodes.items fact.name h.opened.under part, h.opened.within, broken part why)
+  where
+    broken : PartIs version B h.level.tree h.level.nodes.items (Some fact.name) → ((greatest_depth ≤ length h.level.path) × (nodes ≢ [])) ⊎ ¬ MayFollow h.level.nodes.items nodes → IsBroken version B root h.level.path fact.name
+    broken part (inl deep) = inr (inl (nodes, part_lists version B fact.name nodes next read, deep.1, deep.0))
+    broken part (inr wrong) = inr (inr (h.level.tree, h.opened.under, goes_wrong version B h.level.tree fact.name h.level.nodes.items nodes next part read (misplaced h.level.nodes.items nodes wrong)))
 
 -- what is left of a list past its end
 drop_past : (xs : List Name) (i : ℕ) → length xs ≤ i → drop i xs ≡ []
@@ -410,6 +408,7 @@ module _ (facts : List Fact) (version : ℕ) (B : Blobs) (root : Name) (levels :
       let part = part_more facts B h.size sent h.content h.bytes bytes fact h.part h.asked least among named long in
       let asked : slice_get h.content (sent + 1) ≡ Some after.name = ap (λ ns. slice_get ns (sent + 1)) (sym same) ∙ ap (λ i. slice_get content i) (sym count) ∙ b.0 in
       let given : new ≡ Emission.Piece bytes ∷ [] = b.2 ∙ pieced none m in
+      let pieces = subst (λ ns. ArePiecesOf B ns (h.writing.last ++ Emission.Piece bytes ∷ [])) (sym (one_more h.content sent fact.name h.asked)) (pieces_push B (take sent h.content) fact.name h.writing.last bytes h.pieces among named) in
       let waits : FileWaits facts version B root levels (sent + 1) after (old ++ Emission.Piece bytes ∷ []) = record {
         above = h.above;
         level = h.level;
@@ -427,6 +426,7 @@ module _ (facts : List Fact) (version : ℕ) (B : Blobs) (root : Name) (levels :
         asked = asked;
         part = part;
         writing = writing_more old (h.before ++ h.inside) (h.level.path ++ h.node.name ∷ []) h.bytes bytes h.writing;
+        pieces = subst (λ e. ArePiecesOf B (take (sent + 1) h.content) e) (sym (more_last old (h.before ++ h.inside) (h.level.path ++ h.node.name ∷ []) h.bytes bytes h.writing)) pieces;
       } in
       let known : WalkWaits facts version B root levels (sent + 1) onward entries after (old ++ Emission.Piece bytes ∷ []) = record {
         least = least_of facts BlobKind.Content after.name after b.1;
@@ -438,28 +438,21 @@ module _ (facts : List Fact) (version : ℕ) (B : Blobs) (root : Name) (levels :
         subst (λ e. Each (WalkGives facts version B root) e) (sym given) (among, tt),
       )
 
-  -- it is in no index
-  pub blob_ends : (h : FileWaits facts version B root levels sent fact old) → IsLeast facts BlobKind.Content fact.name fact.place → content ≡ h.content → (end : End) → B BlobKind.Content bytes → naming.name bytes ≡ fact.name
-      → length bytes ≡ fact.place.length → out ≡ [] → mid ≡ out ++ Emission.Piece bytes ∷ [] → Follow false old true → BlobFollows facts content next mid new (Begun.Ended end) → WalkEnds facts version B root end × WalkStopped facts version B root old new
-  blob_ends h least same end among named long none m so b =
+  -- it has a place
+  pub blob_there : (h : FileWaits facts version B root levels sent fact old) → IsLeast facts BlobKind.Content fact.name fact.place → content ≡ h.content → next ≡ sent + 1 → (end : End) → B BlobKind.Content bytes → naming.name bytes ≡ fact.name
+      → length bytes ≡ fact.place.length → BlobFollows facts content next mid new (Begun.Ended end) → ⊥
+  blob_there h least same count end among named long b =
       let part = part_more facts B h.size sent h.content h.bytes bytes fact h.part h.asked least among named long in
-      let given : new ≡ Emission.Piece bytes ∷ [] = b.4 ∙ pieced none m in
-      let path : List (List ℕ) = h.level.path ++ h.node.name ∷ [] in
-      let at = node_at version B root h.first h.level.tree h.level.path h.level.nodes.items h.level.next h.begun.at h.begun.at h.inside h.node h.begun.opened h.begun.node_is in
-      let blob = subst (λ (ns : List Name). Contains ns b.0) same (contains_got content next b.0 b.2) in
-      let needed : IsNeeded version B root BlobKind.Content b.0 = (path, h.size, h.content, subst (λ what. IsNodeAt version B root path what) h.file at, blob) in
-      let begins = file_first facts version B root h.first h.above h.level h.before h.inside h.node h.size (sent + 1) h.content (h.bytes ++ bytes) (old ++ Emission.Piece bytes ∷ []) h.leads h.begun h.file part (writing_more old (h.before ++ h.inside) path h.bytes bytes h.writing) in (
-        subst (λ x. WalkEnds facts version B root x) (sym b.1) (BlobKind.Content, refl, b.3, needed),
-        subst (λ e. WalkStopped facts version B root old e) (sym given) (record { each = (among, tt); begins = (true, follow_both false true true old (Emission.Piece bytes ∷ []) so (piece_follows bytes), begins) }),
-      )
+      let asked : slice_get h.content (sent + 1) ≡ Some b.0 = ap (λ ns. slice_get ns (sent + 1)) (sym same) ∙ ap (λ i. slice_get content i) (sym count) ∙ b.2 in
+      dropped_place facts h.content part.left (sent + 1) b.0 part.sums asked b.3
 
 -- a tree that isn't one by its text, or no part
-pub tree_refused : (facts : List Fact) (version : ℕ) (B : Blobs) (root : Name) (levels : List Level) (onward : Bool) (fact : Fact) (old : List Emission) (x : List ℕ) → TreeWaitsBy onward version B root levels fact old → B BlobKind.Tree x
-    → naming.name x ≡ fact.name → IsNoText version x → WalkEnds facts version B root (End.BadObject Thing.Tree fact.name)
-tree_refused facts version B root levels true fact old x h among named none =
+pub tree_refused : (version : ℕ) (B : Blobs) (root : Name) (levels : List Level) (onward : Bool) (fact : Fact) (old : List Emission) (x : List ℕ) → TreeWaitsBy onward version B root levels fact old → B BlobKind.Tree x
+    → naming.name x ≡ fact.name → IsNoText version x → IsBrokenTree version B root fact.name
+tree_refused version B root levels true fact old x h among named none =
     let part = subst (λ n. PartIs version B h.level.tree h.level.nodes.items n) h.goes_on h.opened.read in
-    (refl, (h.level.path, under_onward version B root h.level.path h.level.tree h.level.nodes.items fact.name h.opened.under part, inl (inl (x, among, named, none))))
-tree_refused facts version B root levels false fact old x h among named none = (refl, (h.0, h.2, inl (inl (x, among, named, none))))
+    (h.level.path, under_onward version B root h.level.path h.level.tree h.level.nodes.items fact.name h.opened.under part, h.opened.within, inl (x, among, named, none))
+tree_refused version B root levels false fact old x h among named none = (h.0, h.2, h.3, inl (x, among, named, none))
 
 -- a level in the place of the last one
 pub set_last : (above : List Level) (last level : Level) → slice_set (above ++ last ∷ []) (length above) level ≡ above ++ level ∷ []

@@ -2,10 +2,15 @@
 use Rattle.std.proofs.Common.{arith, ◌≡◌, ◌+◌, ◌++◌, ◌∷◌, [], ◌<◌, ℕ, suc, List, length, take, get_or, refl, sym, ap, append_assoc, ◌∙◌}
 use Rattle.std.proofs.lemmas.List.{append-nil}
 use Rattle.std.proofs.Math.Seq.{take-suc}
+use Rattle.repo_name.specs.Naming as naming
+use Rattle.repo_name.specs.declared.kinds.BlobKind.{BlobKind}
+use Rattle.repo_name.specs.declared.names.Name.{Name}
 use Rattle.repo_tree.specs.declared.entries.Entry.{Entry}
+use Rattle.repo_tree.specs.Parts.{Blobs}
 use Rattle.repo_tree.specs.Spelling.{dir_entry, file_entry}
 use Rattle.repo_session.specs.declared.emissions.Emission.{Emission}
 use Rattle.repo_session.specs.Rebuilding.{pieces, rebuilt}
+use Rattle.repo_restore.specs.Positions.{ArePiecesOf}
 use Rattle.repo_restore.specs.Walks.{ArePieces, IsWriting}
 
 pieces_before : (xs ys : List Emission) → pieces ys ≡ [] → pieces (xs ++ ys) ≡ pieces xs
@@ -54,9 +59,20 @@ pieces_more (Emission.Dir path ∷ ps) bytes more h = absurd h
 pieces_more (Emission.File path ∷ ps) bytes more h = absurd h
 pieces_more (Emission.Close ∷ ps) bytes more h = absurd h
 
+-- a piece of one blob more
+pub pieces_push : (B : Blobs) (names : List Name) (name : Name) (emitted : List Emission) (bytes : List ℕ) → ArePiecesOf B names emitted → B BlobKind.Content bytes → naming.name bytes ≡ name
+    → ArePiecesOf B (names ++ name ∷ []) (emitted ++ Emission.Piece bytes ∷ [])
+pieces_push B [] name emitted bytes h among named = (bytes, [], among, named, ap (λ e. e ++ Emission.Piece bytes ∷ []) h, refl)
+pieces_push B (n ∷ names) name emitted bytes h among named =
+    (h.0, h.1 ++ Emission.Piece bytes ∷ [], h.2, h.3, ap (λ e. e ++ Emission.Piece bytes ∷ []) h.4, pieces_push B names name h.1 bytes h.5 among named)
+
 -- a file begins
 pub writing_new : (emitted : List Emission) (before : List Entry) (path : List (List ℕ)) → rebuilt emitted ≡ before → IsWriting (emitted ++ Emission.File path ∷ []) before path []
 writing_new emitted before path p = record { first = emitted; last = []; split = refl; entries = p; written = refl }
+
+pub new_last : (emitted : List Emission) (before : List Entry) (path : List (List ℕ)) (p : rebuilt emitted ≡ before) → (writing_new emitted before path p).last ≡ []
+unfolding writing_new
+new_last emitted before path p = refl
 
 -- and goes on
 pub writing_more : (emitted : List Emission) (before : List Entry) (path : List (List ℕ)) (bytes more : List ℕ) → IsWriting emitted before path bytes → IsWriting (emitted ++ Emission.Piece more ∷ []) before path (bytes ++ more)
@@ -67,6 +83,10 @@ writing_more emitted before path bytes more h = record {
   entries = h.entries;
   written = pieces_more h.last bytes more h.written;
 }
+
+pub more_last : (emitted : List Emission) (before : List Entry) (path : List (List ℕ)) (bytes more : List ℕ) (h : IsWriting emitted before path bytes) → (writing_more emitted before path bytes more h).last ≡ h.last ++ Emission.Piece more ∷ []
+unfolding writing_more
+more_last emitted before path bytes more h = refl
 
 -- and ends
 pub writing_done : (emitted : List Emission) (before : List Entry) (path : List (List ℕ)) (bytes : List ℕ) → IsWriting emitted before path bytes → rebuilt (emitted ++ Emission.Close ∷ []) ≡ before ++ file_entry path bytes ∷ []

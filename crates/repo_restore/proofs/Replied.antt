@@ -10,6 +10,7 @@ use Rattle.repo_wire.specs.declared.messages.Ask.{Ask}
 use Rattle.repo_tree.specs.declared.nodes.NodeKind.{NodeKind}
 use Rattle.repo_session.specs.declared.emissions.Emission.{Emission}
 use Rattle.repo_session.specs.declared.outcomes.Outcome.{Outcome}
+use Rattle.repo_session.specs.Catalogs.{AreIndexed}
 use Rattle.repo_session.specs.Clients.{exchange}
 use Rattle.repo_session.specs.Ends.{before_unlock, without_unlock}
 use Rattle.repo_session.specs.Order.{Obeys}
@@ -17,12 +18,11 @@ use Rattle.repo_session.specs.Received.{Received}
 use Rattle.repo_session.specs.Sessions.{next_in, who_in}
 use Rattle.repo_session.specs.Talks.{Talk, trace_of, given_in}
 use Rattle.repo_session.specs.Traces.{Each, Exchange, Trace, emitted_in}
-use Rattle.repo_session.proofs.Cataloguing.{fact_stays}
 use Rattle.repo_session.proofs.Descending.{received_grows, root_grows, node_at_grows}
 use Rattle.repo_session.proofs.Taking.{came_in, given_is, stands_after}
 use Rattle.repo_restore.specs.Laws.{RestoredIsWhatCame, GivenIsWhatCame, GivenIsABeginning, BeginsSnapshot, MayBeGiven, FileHolds, ClosedIsWhole}
 use Rattle.repo_restore.specs.RestoreStates.{FitsRestore, IsNewRestore, KnowsRestore, wish_of}
-use Rattle.repo_restore.specs.Restoring.{Wish, restore_rule, restore_task, HaveLength, IsForBlob, IsRestored, MayGive, RestoreAllows, RestoreGives}
+use Rattle.repo_restore.specs.Restoring.{Wish, restore_rule, restore_task, HasLength, IsForBlob, IsRestored, MayGive, RestoreAllows, RestoreGives}
 use Rattle.repo_restore.specs.Walks.{ArePieces}
 use Rattle.repo_restore.specs.declared.restores.Restore.{Restore}
 use Rattle.repo_restore.specs.Beginnings.{IsBeginning}
@@ -30,6 +30,7 @@ use Rattle.repo_restore.proofs.Beginnings.{beginning_grows}
 use Rattle.repo_session.specs.Obedience.{session_obeys}
 use Rattle.repo_session.specs.declared.sessions.Session.{Session}
 use Rattle.repo_restore.proofs.Closing.{file_closed}
+use Rattle.repo_restore.proofs.Indexed.{range_indexed, indexed_stays, gives_stays}
 
 -- the exchanges keep the order and the rule of a restore
 abbrev Keeps : Wish → Trace → Type 0
@@ -51,16 +52,16 @@ given_before w (e ∷ es) o = given_by w e.ask e es refl o
 
 -- ---- each part
 
-lengths_grow : (e : Exchange) (es : Trace) (content : List Name) (total : ℕ) → HaveLength es content total → HaveLength (e ∷ es) content total
-lengths_grow e es [] total h = h
-lengths_grow e es (name ∷ content) total h = (h.0, h.1, fact_stays e es h.0 h.2, h.3, h.4, lengths_grow e es content h.1 h.5, h.6)
+module _ (w : Wish) (e : Exchange) (es : Trace) (all : AreIndexed es) (o : Keeps w (e ∷ es)) where
+  length_stays : (content : List Name) (total : ℕ) → HasLength es content total → HasLength (e ∷ es) content total
+  length_stays content total h = record { facts = h.facts; gives = gives_stays w e es all o h.facts h.gives; sums = h.sums }
 
-may_grow : (e : Exchange) (es : Trace) (version : ℕ) (root : Name) (given : Emission) → MayGive es version root given → MayGive (e ∷ es) version root given
-may_grow e es version root (Emission.Dir path) h = (h.0, node_at_grows version (Received es) (Received (e ∷ es)) (received_grows e es) root path (NodeKind.Dir h.0) h.1)
-may_grow e es version root (Emission.File path) h =
-    (h.0, h.1, node_at_grows version (Received es) (Received (e ∷ es)) (received_grows e es) root path (NodeKind.File h.0 h.1) h.2, lengths_grow e es h.1 h.0 h.3)
-may_grow e es version root (Emission.Piece bytes) h = received_grows e es BlobKind.Content bytes h
-may_grow e es version root Emission.Close h = tt
+  may_grow : (version : ℕ) (root : Name) (given : Emission) → MayGive es version root given → MayGive (e ∷ es) version root given
+  may_grow version root (Emission.Dir path) h = (h.0, node_at_grows version (Received es) (Received (e ∷ es)) (received_grows e es) root path (NodeKind.Dir h.0) h.1)
+  may_grow version root (Emission.File path) h =
+      (h.0, h.1, node_at_grows version (Received es) (Received (e ∷ es)) (received_grows e es) root path (NodeKind.File h.0 h.1) h.2, length_stays h.1 h.0 h.3)
+  may_grow version root (Emission.Piece bytes) h = received_grows e es BlobKind.Content bytes h
+  may_grow version root Emission.Close h = tt
 
 each_given : (P : Emission → Type 0) (all : List Emission) (given : Emission) → Each P all → Contains all given → P given
 each_given P [] given h c = absurd (none_contained given c)
@@ -69,20 +70,21 @@ each_given P (first ∷ all) given h c = elim (contained_or first all given c) [
   | inr more ↦ each_given P all given h.1 more
 ]
 
-given_now : (w : Wish) (e : Exchange) (es : Trace) (given : Emission) → (e.emitted ≡ []) ⊎ RestoreGives w.snapshot es e → Contains e.emitted given → MayBeGiven (e ∷ es) w.snapshot given
-given_now w e es given (inl none) c = absurd (none_contained given (subst (λ x. Contains x given) none c))
-given_now w e es given (inr gives) c =
-    (gives.1, gives.2, root_grows e es w.snapshot gives.1 gives.2 gives.3, each_given (λ g. MayGive (e ∷ es) gives.1 gives.2 g) e.emitted given gives.4 c)
+-- all indexes were read before it
+given_now : (w : Wish) (e : Exchange) (es : Trace) (given : Emission) → Keeps w (e ∷ es) → (e.emitted ≡ []) ⊎ RestoreGives w.snapshot es e → Contains e.emitted given → AreIndexed (e ∷ es) × MayBeGiven (e ∷ es) w.snapshot given
+given_now w e es given o (inl none) c = absurd (none_contained given (subst (λ x. Contains x given) none c))
+given_now w e es given o (inr gives) c =
+    (indexed_stays w e es (range_indexed w.snapshot es e.ask gives.0 o.1) o, (gives.1, gives.2, root_grows e es w.snapshot gives.1 gives.2 gives.3, each_given (λ g. MayGive (e ∷ es) gives.1 gives.2 g) e.emitted given gives.4 c))
 
-given_of : (w : Wish) (talk : Talk) (given : Emission) → Keeps w (trace_of talk) → Contains (given_in talk) given → MayBeGiven (trace_of talk) w.snapshot given
+given_of : (w : Wish) (talk : Talk) (given : Emission) → Keeps w (trace_of talk) → Contains (given_in talk) given → AreIndexed (trace_of talk) × MayBeGiven (trace_of talk) w.snapshot given
 given_of w [] given o c = absurd (none_contained given c)
 given_of w (turn ∷ talk) given o c =
     let e : Exchange = exchange turn.request turn.reply turn.emitted in
     elim (Contains-append_cases (given_in talk) turn.emitted given c) [
       | inl old ↦
           let h = given_of w talk given o.3 old in
-          (h.0, h.1, root_grows e (trace_of talk) w.snapshot h.0 h.1 h.2, may_grow e (trace_of talk) h.0 h.1 given h.3)
-      | inr now ↦ given_now w e (trace_of talk) given o.2 now
+          (indexed_stays w e (trace_of talk) h.0 o, (h.1.0, h.1.1, root_grows e (trace_of talk) w.snapshot h.1.0 h.1.1 h.1.2, may_grow w e (trace_of talk) h.0 o h.1.0 h.1.1 given h.1.3))
+      | inr now ↦ given_now w e (trace_of talk) given o o.2 now
     ]
 
 -- ---- all of it
@@ -127,7 +129,7 @@ given_is_what_came old new replies talk given r c =
     let instance = (who_in old).instance in
     let o = session_obeys (λ (j : Restore). j.snapshot) restore_rule IsNewRestore KnowsRestore (λ j fs. ⊥) new (trace_of talk) (stands_after instance FitsRestore (λ (s : Session Restore). next_in s) old new replies talk r.begins r.took) in (
       came_in instance FitsRestore (λ (s : Session Restore). next_in s) old new replies talk r.took,
-      subst (λ (w : Wish). MayBeGiven (trace_of talk) w.snapshot given) r.wish (given_of (wish_of new) talk given o.obeys c),
+      subst (λ (w : Wish). MayBeGiven (trace_of talk) w.snapshot given) r.wish (given_of (wish_of new) talk given o.obeys c).1,
     )
 
 pub given_is_a_beginning : GivenIsABeginning

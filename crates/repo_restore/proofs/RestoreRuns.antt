@@ -1,5 +1,5 @@
 -- The laws of a restore and of a list that are alone with their store.
-use Rattle.std.proofs.Common.{arith, ◌≡◌, ◌⊎◌, ◌++◌, ◌∷◌, [], ℕ, Bool, false, List, length, Option, Some, None, refl, sym, ap, subst, inl, inr, ⊎_elim, length-append, ◌∙◌}
+use Rattle.std.proofs.Common.{arith, ◌≡◌, ◌↔◌, ◌⊎◌, ◌++◌, ◌∷◌, [], ℕ, Bool, false, List, length, Option, Some, None, refl, sym, ap, subst, inl, inr, ⊎_elim, length-append, ◌∙◌, Contains}
 use Rattle.std.proofs.lemmas.Option.{same_Some}
 use Rattle.repo_name.specs.Naming as naming
 use Rattle.repo_name.specs.declared.kinds.BlobKind.{BlobKind}
@@ -7,14 +7,13 @@ use Rattle.repo_name.specs.declared.kinds.Kind.{Kind}
 use Rattle.repo_name.specs.declared.kinds.Thing.{Thing}
 use Rattle.repo_name.specs.declared.names.Name.{Name}
 use Rattle.repo_wire.specs.declared.messages.Code.{Code}
-use Rattle.repo_index.specs.IndexText.{Says}
+use Rattle.repo_index.specs.IndexText.{Says, fact_of}
 use Rattle.repo_index.specs.declared.facts.Fact.{Fact}
 use Rattle.repo_tree.specs.Laws.{Agree}
-use Rattle.repo_tree.specs.Parts.{Blobs, ListsBy}
+use Rattle.repo_tree.specs.Parts.{Blobs}
 use Rattle.repo_tree.specs.SnapshotText.{IsSnapshotText}
 use Rattle.repo_tree.specs.Spelling.{Joined, Spells, greatest_depth}
 use Rattle.repo_tree.specs.declared.entries.Entry.{Entry}
-use Rattle.repo_tree.specs.declared.nodes.Node.{Node}
 use Rattle.repo_tree.specs.declared.snapshots.Snapshot.{Snapshot}
 use Rattle.repo_tree.proofs.SnapshotLemmas.{snapshot_texts_one}
 use Rattle.repo_tree.proofs.DirectoryLemmas.{lists_grow}
@@ -36,6 +35,7 @@ use Rattle.repo_session.proofs.Concluding.{calm_of, either, ends_well, puts_none
 use Rattle.repo_session.proofs.Descending.{under_grows, needed_grows, broken_grows, root_spells_at, file_spelled, needed_there, unbroken}
 use Rattle.repo_session.proofs.Enumerating.{listed_or_put}
 use Rattle.repo_session.proofs.Growing.{Led, Shares, led}
+use Rattle.repo_session.proofs.Reaching.{reached_needed}
 use Rattle.repo_session.proofs.Taking.{given_is}
 use Rattle.repo_session.proofs.Telling.{seen_run}
 use Rattle.repo_session.proofs.Unchanging.{OnlyReads, same_run, same_after, puts_nothing, shares_run, sound_throughout}
@@ -44,10 +44,10 @@ use Rattle.repo_session.proofs.Spoken.{held_agree}
 use Rattle.repo_restore.specs.Laws.{RestoreChangesNothing, ListChangesNothing, IsListedOrMemory, ListEndsWell, IsCompleteOrMemory, RestoreEndsWell, BeginsSnapshot, AreFirstOf, RestoreGivesFirst}
 use Rattle.repo_restore.specs.Listing.{list_task, ListAllows, ListGives, ListConcludes}
 use Rattle.repo_session.specs.Received.{Received}
-use Rattle.repo_session.specs.Trees.{HasRoot, Under, IsUnindexed}
-use Rattle.repo_restore.specs.Restoring.{Wish, restore_task, HaveLength, IsUneven, IsBadTree, RestoreAllows, RestoreGives, RestoreConcludes}
+use Rattle.repo_session.specs.Trees.{HasRoot, Under, IsBroken, IsUnindexed}
+use Rattle.repo_restore.specs.Restoring.{Wish, restore_task, Sums, IsUneven, IsBrokenNext, IsBadTree, RestoreAllows, RestoreGives, RestoreConcludes}
 use Rattle.repo_restore.proofs.Firsts.{first_is_of_all}
-use Rattle.repo_restore.proofs.Advancing.{only_reads, lengths_by}
+use Rattle.repo_restore.proofs.Advancing.{only_reads}
 use Rattle.repo_session.proofs.KindReads.{kind_reads}
 use Rattle.repo_restore.proofs.Replied.{begun_of}
 
@@ -99,6 +99,10 @@ list_ends who from to failed talk outcome fit versions low ran few is =
     (sound_throughout (list_task who) (ListAllows who) (ListGives who) (list_never who) from talk fit.sound is.obeys) (calm_of failed talk low ran.cause) few)
 
 -- ---- how a restore ends
+
+broken_next : (es : Trace) (version : ℕ) (root : Name) (path : List (List ℕ)) (tree : Name) → IsBrokenNext es version root path tree → IsBroken version (Received es) root path tree
+broken_next [] version root path tree h = absurd h
+broken_next (e ∷ es) version root path tree h = h.0
 
 module _ (w : Wish) (from : Store) (sound : IsSound from.objects) (agree : Agree (IsHeld from.objects) (IsHeld from.objects)) (talk : Talk) (to : Store) (o : Obeys (restore_task w) (RestoreAllows w.snapshot) (RestoreGives w.snapshot) (trace_of talk))
     (h : Led from talk to) where
@@ -163,41 +167,42 @@ module _ (w : Wish) (from : Store) (sound : IsSound from.objects) (agree : Agree
       let one : b.bytes ≡ x = agree BlobKind.Content b.bytes x (subst (λ k. B k b.bytes) kind b.held) held (b.named ∙ sym named) in
       sym (range_length b.pack fact.place.offset fact.place.length b.bytes b.stands) ∙ ap length one
 
-  lengths_are : (content : List Name) (total : ℕ) (bytes : List ℕ) → HaveLength (trace_of talk) content total → Joined B content bytes → total ≡ length bytes
-  lengths_are [] total bytes l j = l ∙ sym (ap length j)
-  lengths_are (n ∷ content) total bytes l j =
-      let here = fact_length l.0 j.0 l.2 l.3 j.2 (j.3 ∙ sym l.4) in
-      let rest = lengths_are content l.1 j.1 l.5 j.4 in
+  lengths_are : (facts : List Fact) → ((fact : Fact) → Contains facts fact ↔ ReadFact (trace_of talk) fact) → (content : List Name) (total : ℕ) (bytes : List ℕ) → Sums facts content total → Joined B content bytes → total ≡ length bytes
+  lengths_are facts gives [] total bytes l j = l ∙ sym (ap length j)
+  lengths_are facts gives (n ∷ content) total bytes l j =
+      let fact : Fact = fact_of BlobKind.Content n l.0 in
+      let here : l.0.length ≡ length j.0 = fact_length fact j.0 ((gives fact).0 l.2.among) refl j.2 j.3 in
+      let rest = lengths_are facts gives content l.1 j.1 l.3 j.4 in
       let whole : length bytes ≡ length (j.0 ++ j.1) = ap length j.5 in
-      omega (arith, here, rest, l.6, whole, length-append j.0 j.1)
+      omega (arith, here, rest, l.4, whole, length-append j.0 j.1)
 
-  no_uneven : (version : ℕ) (root : Name) (entries : List Entry) (path : List (List ℕ)) (tree : Name) (nodes : List Node) → Spells version B root [] entries → Under version B root path tree → ListsBy version B tree nodes
-      → IsUneven (trace_of talk) nodes → ⊥
-  no_uneven version root entries path tree nodes spells leads lists u =
+  no_uneven : (version : ℕ) (root : Name) (entries : List Entry) (path : List (List ℕ)) (tree : Name) → Spells version B root [] entries → Under version B root path tree → IsUneven (trace_of talk) version root tree → ⊥
+  no_uneven version root entries path tree spells leads u =
+      let lists = lists_grow version (Received (trace_of talk)) B received_held tree u.nodes u.read in
       let at = root_spells_at version B agree root entries path tree spells leads in
-      let f = file_spelled version B agree greatest_depth path tree nodes u.name u.size u.content at lists u.among in
-      u.other (lengths_are u.content u.total f.0 (lengths_by u.facts (trace_of talk) u.content u.total u.gives u.lengths) f.1 ∙ f.2)
+      let f = file_spelled version B agree greatest_depth path tree u.nodes u.file u.size u.content at lists u.among in
+      u.other (lengths_are u.lengths.facts u.lengths.gives u.content u.total f.0 u.lengths.sums f.1 ∙ f.2)
 
   no_bad_tree : (tree : Name) → IsBadTree (trace_of talk) w.snapshot tree → ⊥
   no_bad_tree tree b =
       let got : Blobs = Received (trace_of talk) in
       let s = root_spelled b.version b.root b.found in
       let leads = under_grows b.version got B received_held b.root b.path tree b.leads in
-      ⊎_elim (λ broken. unbroken b.version B agree b.root s.0 b.path tree s.1 leads (broken_grows b.version got B received_held b.root b.path tree broken))
-      (λ n. no_uneven b.version b.root s.0 b.path tree n.0 s.1 leads (lists_grow b.version got B received_held tree n.0 n.1) n.2) b.unfit
+      ⊎_elim (λ broken. unbroken b.version B agree b.root s.0 b.path tree s.1 leads (broken_grows b.version got B received_held b.root b.path tree (broken_next (trace_of talk) b.version b.root b.path tree broken)))
+      (λ n. no_uneven b.version b.root s.0 b.path tree s.1 leads n) b.unfit
 
   no_unindexed : (thing : Thing) (name : Name) → IsUnindexed (trace_of talk) w.snapshot thing name → ⊥
   no_unindexed thing name u =
       let s = root_spelled u.version u.root u.found in
-      let b = needed_there u.version B agree u.root s.0 u.kind name s.1 (needed_grows u.version (Received (trace_of talk)) B received_held u.root u.kind name u.needed) in
+      let b = needed_there u.version B agree u.root s.0 u.kind name s.1 (needed_grows u.version (Received (trace_of talk)) B received_held u.root u.kind name (reached_needed u.version (Received (trace_of talk)) u.root u.kind name u.reached)) in
       let held = b.among in
       let now : to.objects Kind.Index held.index ≡ Some held.text = ap (λ (s : Objects). s Kind.Index held.index) same ∙ held.listed in
       let listed : Lists (trace_of talk) Kind.Index held.index = ⊎_elim (λ l. l)
       (λ put. absurd (puts_nothing (restore_task w) (RestoreAllows w.snapshot) (RestoreGives w.snapshot) (restore_never w.snapshot) (trace_of talk) Kind.Index held.index o put))
       (listed_or_put (AskedToPut (trace_of talk)) (restore_task w) (RestoreAllows w.snapshot) (RestoreGives w.snapshot) Kind.Index held.index (trace_of talk) to.objects held.text o (seen_run from talk to h) u.indexes.listed now) in
       let read = u.indexes.each held.index listed in
-      let one : held.text ≡ read.0 = same_Some held.text read.0 (sym held.listed ∙ first Kind.Index held.index read.0 (shares.got Kind.Index held.index read.0 read.1.0)) in
-      let fact : ReadFact (trace_of talk) held.fact = record { index = held.index; text = read.0; read = read.1; says = subst (λ (x : List ℕ). Says x held.fact) one held.says } in
+      let one : held.text ≡ read.0 = same_Some held.text read.0 (sym held.listed ∙ first Kind.Index held.index read.0 (shares.got Kind.Index held.index read.0 read.2.0)) in
+      let fact : ReadFact (trace_of talk) held.fact = record { index = held.index; text = read.0; read = read.2; says = subst (λ (x : List ℕ). Says x held.fact) one held.says } in
       u.ungiven (held.fact, fact, held.of_kind, held.named ∙ b.named)
 
   own_well : (outcome : Outcome) → RestoreConcludes w.snapshot (trace_of talk) outcome → IsCompleteOrMemory (Some outcome)
@@ -214,7 +219,7 @@ module _ (w : Wish) (from : Store) (sound : IsSound from.objects) (agree : Agree
   own_well (Outcome.Ended (End.BadObject Thing.Pack name)) own = absurd own
   own_well (Outcome.Ended (End.BadObject Thing.Index name)) own = absurd own
   own_well (Outcome.Ended (End.BadObject Thing.Snapshot name)) own = absurd own
-  own_well (Outcome.Ended (End.Missing thing name)) own = absurd (no_unindexed thing name own)
+  own_well (Outcome.Ended (End.Missing thing name)) own = absurd (no_unindexed thing name own.0)
   own_well (Outcome.Ended End.Busy) own = absurd own
   own_well (Outcome.Ended End.Fenced) own = absurd own
   own_well (Outcome.Ended (End.Refused code)) own = absurd own

@@ -18,7 +18,8 @@ use Rattle.repo_restore.specs.declared.nodes.Level.{Level}
 use Rattle.repo_restore.specs.declared.walks.Turn.{Turn}
 use Rattle.repo_restore.specs.Beginnings.{FirstChain, HasFirstNodes, NodeSpellsFirst, SpellsFirst, IsBeginning}
 use Rattle.repo_restore.specs.Walking.{LevelEnds, TreeWaitsBy, WaitsByKind, WalkWaits, TurnGives}
-use Rattle.repo_restore.specs.Walks.{PartIs, LeadsThrough, ComesBehind, HaveNodes, LaterHaveNodes, nodes_in, IsOpenLevel, DirectoryIsBegun, IsFile, IsWriting, LeadsOn, WalkGives, WalkStopped, is_open}
+use Rattle.repo_restore.specs.Positions.{LeadsThrough, ComesBehind, HaveNodes, LaterHaveNodes, nodes_in}
+use Rattle.repo_restore.specs.Walks.{PartIs, IsOpenLevel, DirectoryIsBegun, IsFile, IsWriting, LeadsOn, WalkGives, WalkStopped, is_open}
 use Rattle.repo_restore.proofs.Beginnings.{first_none, first_nodes, first_next, all_spelled}
 use Rattle.repo_restore.proofs.Rebuilds.{writing_open}
 use Rattle.repo_restore.proofs.Summing.{one_more}
@@ -80,6 +81,12 @@ level_first version B root first tree path nodes next begun inside h = by h.shal
         let nothing : inside ≡ [] = subst (λ ns. NodesSpell B (Spells version B) path ns inside) (none_begun (nodes_in h.parts) nodes begun none) h.spelled in
         subst (λ (es : List Entry). SpellsFirst version B first path false es) (sym nothing) (first_none version B first path)
 
+-- those up to a node
+pub node_next : (version : ℕ) (B : Blobs) (root first tree : Name) (path : List (List ℕ)) (nodes : List Node) (next : Option Name) (at : ℕ) (inside : List Entry) (node : Node) (h : IsOpenLevel version B root first tree path nodes next at inside)
+    → slice_get nodes at ≡ Some node → HasFirstNodes version B first ((nodes_in h.parts ++ take at nodes) ++ node ∷ [])
+node_next version B root first tree path nodes next at inside node h p = subst (λ ns. HasFirstNodes version B first ns) (ap (λ ns. nodes_in h.parts ++ ns) (one_more nodes at node p) ∙ sym (append_assoc (nodes_in h.parts) (take at nodes) (node ∷ [])))
+    (open_first version B root first tree path nodes next at inside h (at + 1))
+
 no_node : (before nodes : List Node) (at : ℕ) (node : Node) → before ++ nodes ≡ [] → slice_get nodes at ≡ Some node → ⊥
 no_node [] [] at node h p = absurd (cc)
 no_node [] (n ∷ nodes) at node h p = absurd (cc)
@@ -91,8 +98,7 @@ pub next_first : (version : ℕ) (B : Blobs) (root first tree : Name) (path : Li
 next_first version B root first tree path nodes next at inside node within own h p begun = by h.shallow
   where
     has : HasFirstNodes version B first ((nodes_in h.parts ++ take at nodes) ++ node ∷ [])
-    has = subst (λ ns. HasFirstNodes version B first ns) (ap (λ ns. nodes_in h.parts ++ ns) (one_more nodes at node p) ∙ sym (append_assoc (nodes_in h.parts) (take at nodes) (node ∷ [])))
-        (open_first version B root first tree path nodes next at inside h (at + 1))
+    has = node_next version B root first tree path nodes next at inside node h p
 
     by : (length path < greatest_depth) ⊎ (nodes_in h.parts ++ nodes ≡ []) → SpellsFirst version B first path within (inside ++ own)
     by (inl lt) = first_next version B first path (nodes_in h.parts ++ take at nodes) node within inside own lt has h.spelled begun
@@ -179,8 +185,8 @@ level_stopped facts version B root first levels level before old out leads h =
     record { each = h.given.each; begins = (false, h.given.order, root_first version B root levels first level.path before (rebuilt (old ++ out)) false h.inside leads h.begins h.whole) }
 
 -- whatever comes of it, all that was given out is a beginning
-pub turn_beginning : (facts : List Fact) (version : ℕ) (B : Blobs) (root : Name) (levels : List Level) (sent : ℕ) (onward : Bool) (entries : ℕ) (old out : List Emission) (turn : Turn) → TurnGives facts version B root levels sent onward entries old out turn
+pub turn_beginning : (came : Option Name) (facts : List Fact) (version : ℕ) (B : Blobs) (root : Name) (levels : List Level) (sent : ℕ) (onward : Bool) (entries : ℕ) (old out : List Emission) (turn : Turn) → TurnGives came facts version B root levels sent onward entries old out turn
     → IsBeginning version B root (old ++ out)
-turn_beginning facts version B root levels sent onward entries old out (Turn.Ask fact) h = waits_beginning facts version B root levels sent onward entries fact (old ++ out) h.0
-turn_beginning facts version B root levels sent onward entries old out (Turn.Complete count) h = (false, h.2.order, all_spelled version B root [] (rebuilt (old ++ out)) h.0)
-turn_beginning facts version B root levels sent onward entries old out (Turn.Ended end) h = h.1.begins
+turn_beginning came facts version B root levels sent onward entries old out (Turn.Ask fact) h = waits_beginning facts version B root levels sent onward entries fact (old ++ out) h.0
+turn_beginning came facts version B root levels sent onward entries old out (Turn.Complete count) h = (false, h.2.order, all_spelled version B root [] (rebuilt (old ++ out)) h.0)
+turn_beginning came facts version B root levels sent onward entries old out (Turn.Ended end) h = h.1.begins

@@ -1,5 +1,5 @@
 -- The lengths of a file's blobs.
-use Rattle.std.proofs.Common.{arith, ◌≡◌, ◌<◌, ◌+◌, ◌++◌, ◌∷◌, [], ℕ, zero, suc, false, List, length, take, drop, slice_get, get_or, Some, refl, sym, ap, subst, ◌∙◌}
+use Rattle.std.proofs.Common.{arith, ◌≡◌, ◌<◌, ◌+◌, ◌++◌, ◌∷◌, [], ℕ, zero, suc, false, List, length, take, drop, slice_get, get_or, Some, refl, sym, ap, subst, append_assoc, take-append-drop, ◌∙◌}
 use Rattle.std.specs.Ordering.{ordering_then, ordering_reverse, is_gt}
 use Rattle.std.specs.declared.cmp.Ordering.{Ordering}
 use Rattle.std.specs.declared.cmp.Ordering.TheVariants.{Less, Equal, Greater}
@@ -17,12 +17,17 @@ use Rattle.repo_index.specs.declared.facts.Fact.{Fact}
 use Rattle.repo_index.specs.Lookups.{IsLeast}
 use Rattle.repo_session.specs.Catalogs.{IsBlobNowhere}
 use Rattle.repo_restore.specs.Restoring.{Sums}
+use Rattle.repo_restore.specs.Walks.{LacksFirst}
 
 -- one more behind some
 pub one_more : {A : Type 0} (xs : List A) (i : ℕ) (x : A) → slice_get xs i ≡ Some x → take (i + 1) xs ≡ take i xs ++ x ∷ []
 one_more xs i x q =
     let s : i + 1 ≡ suc i = omega arith in
     ap (λ j. take j xs) s ∙ take-suc xs i x (slice_get_within xs i x q) ∙ ap (λ y. take i xs ++ y ∷ []) (get_or_from_slice_get xs i x x q)
+
+-- a list around one of its items
+pub around : (xs : List Name) (i : ℕ) (x : Name) → slice_get xs i ≡ Some x → xs ≡ take i xs ++ x ∷ drop (i + 1) xs
+around xs i x p = sym (take-append-drop (i + 1) xs) ∙ ap (λ t. t ++ drop (i + 1) xs) (one_more xs i x p) ∙ append_assoc (take i xs) (x ∷ []) (drop (i + 1) xs)
 
 pub sums_push : (facts : List Fact) (names : List Name) (total : ℕ) (name : Name) (place : Place) → Sums facts names total → IsLeast facts BlobKind.Content name place → Sums facts (names ++ name ∷ []) (total + place.length)
 sums_push facts [] total name place h least = (place, 0, least, refl, (let e : total ≡ 0 = h in omega arith))
@@ -34,6 +39,16 @@ pub summed_place : (facts : List Fact) (names : List Name) (total : ℕ) (i : �
 summed_place facts [] total i name h p none = absurd (cc)
 summed_place facts (n ∷ ns) total zero name h p none = let e : n ≡ name = cc in none h.0 (let P : Name → Type 0 = λ m. IsLeast facts BlobKind.Content m h.0 in (subst P e h.2).among)
 summed_place facts (n ∷ ns) total (suc i) name h p none = summed_place facts ns h.1 i name h.3 p none
+
+-- and so is what is summed behind some
+pub dropped_place : (facts : List Fact) (names : List Name) (total : ℕ) (i : ℕ) (name : Name) → Sums facts (drop i names) total → slice_get names i ≡ Some name → ¬ IsBlobNowhere facts BlobKind.Content name
+dropped_place facts [] total i name h p none = absurd (cc)
+dropped_place facts (n ∷ ns) total zero name h p none = summed_place facts (n ∷ ns) total 0 name h p none
+dropped_place facts (n ∷ ns) total (suc i) name h p none = dropped_place facts ns total i name h p none
+
+-- the first that has no place
+pub lacks_first : (facts : List Fact) (names : List Name) (total i : ℕ) (name : Name) → Sums facts (take i names) total → slice_get names i ≡ Some name → IsBlobNowhere facts BlobKind.Content name → LacksFirst facts names name
+lacks_first facts names total i name h p none = record { earlier = take i names; later = drop (i + 1) names; total = total; all = around names i name p; sums = h; none = none }
 
 -- one more of a file's blobs
 pub sums_next : (facts : List Fact) (names : List Name) (total i : ℕ) (d : Name) (place : Place) → i < length names → Sums facts (take i names) total → IsLeast facts BlobKind.Content (get_or names i d) place

@@ -1,5 +1,5 @@
 -- What open directories spell.
-use Rattle.std.proofs.Common.{arith, ◌≡◌, ◌≢◌, ◌≤◌, ◌<◌, ◌+◌, ◌++◌, ◌∷◌, [], ℕ, zero, suc, List, Option, None, length, take, slice_get, Some, refl, sym, ap, subst, inl, inr, ◌⊎◌, append_assoc, ◌∙◌}
+use Rattle.std.proofs.Common.{arith, ◌≡◌, ◌≢◌, ◌≤◌, ◌<◌, ◌+◌, ◌++◌, ◌∷◌, [], ℕ, zero, suc, List, Option, None, length, take, slice_get, Some, refl, sym, ap, subst, inl, inr, ◌⊎◌, ⊎_elim, append_assoc, length-append, ◌∙◌}
 use Rattle.std.proofs.lemmas.List.{take_all}
 use Rattle.std.proofs.lemmas.Option.{slice_get_within}
 use Rattle.repo_name.proofs.Containing.{contains_got}
@@ -18,7 +18,8 @@ use Rattle.repo_tree.proofs.PartLemmas.{AreFull}
 use Rattle.repo_tree.proofs.SpellingLemmas.{made_spelled, empty_spelled, nodes_push}
 use Rattle.repo_restore.specs.declared.nodes.Level.{Level}
 use Rattle.repo_session.specs.Trees.{Under, IsNodeAt, IsNoText}
-use Rattle.repo_restore.specs.Walks.{PartIs, LeadsThrough, ComesBehind, HaveNodes, LaterHaveNodes, nodes_in, IsOpenLevel, DirectoryIsBegun, LeadsOn, AtLevel, AtOpen}
+use Rattle.repo_restore.specs.Positions.{LeadsThrough, ComesBehind, HaveNodes, LaterHaveNodes, nodes_in}
+use Rattle.repo_restore.specs.Walks.{PartIs, IsOpenLevel, DirectoryIsBegun, LeadsOn, AtLevel, AtOpen}
 use Rattle.repo_restore.proofs.Summing.{one_more}
 
 -- ---- a directory and its parts
@@ -99,6 +100,7 @@ open_more version B root first tree path nodes next at inside node more h p s = 
   later = h.later;
   full = h.full;
   under = h.under;
+  within = h.within;
   read = h.read;
   ordered = h.ordered;
   shallow = h.shallow;
@@ -115,6 +117,7 @@ open_all version B root first tree path nodes next at inside w h = record {
   later = h.later;
   full = h.full;
   under = h.under;
+  within = h.within;
   read = h.read;
   ordered = h.ordered;
   shallow = h.shallow;
@@ -135,6 +138,19 @@ open_spells version B root first tree path nodes next inside none h =
     let dir = is_directory version B first tree h.parts nodes h.behind h.later h.full (subst (λ n. PartIs version B tree nodes n) none h.read) h.ordered in
     spelled_by version B first path (nodes_in h.parts ++ nodes) inside h.shallow dir
     (subst (λ ns. NodesSpell B (Spells version B) path (nodes_in h.parts ++ ns) inside) (take_all (length nodes) nodes (omega arith)) h.spelled)
+
+no_node : (before nodes : List Node) (at : ℕ) (node : Node) → before ++ nodes ≡ [] → slice_get nodes at ≡ Some node → ⊥
+no_node [] [] at node h p = absurd (cc)
+no_node [] (n ∷ nodes) at node h p = absurd (cc)
+no_node (n ∷ before) nodes at node h p = absurd (cc)
+
+-- a directory that has a node isn't the deepest, and so the node's path is no longer than one may be
+pub open_shallow : (version : ℕ) (B : Blobs) (root first tree : Name) (path : List (List ℕ)) (nodes : List Node) (next : Option Name) (at begun : ℕ) (inside : List Entry) (node : Node) → IsOpenLevel version B root first tree path nodes next begun inside
+    → slice_get nodes at ≡ Some node → length path < greatest_depth
+open_shallow version B root first tree path nodes next at begun inside node h p = ⊎_elim (λ few. few) (λ none. absurd (no_node (nodes_in h.parts) nodes at node none p)) h.shallow
+
+pub below_shallow : (path : List (List ℕ)) (name : List ℕ) → length path < greatest_depth → length (path ++ name ∷ []) ≤ greatest_depth
+below_shallow path name few = omega (arith, few, length-append path (name ∷ []))
 
 -- a node stands at its path
 pub node_at : (version : ℕ) (B : Blobs) (root first tree : Name) (path : List (List ℕ)) (nodes : List Node) (next : Option Name) (at begun : ℕ) (inside : List Entry) (node : Node) → IsOpenLevel version B root first tree path nodes next begun inside

@@ -1,5 +1,6 @@
 -- What holds of a restore and of a list that are alone with their store, and of a restore whatever the replies, by the definitions alone.
 use Rattle.std.specs.Prelude.{◌≡◌, ◌⊎◌, ◌<◌, ◌^◌, ◌-◌, ◌++◌, ◌∷◌, [], ⊤, ℕ, Bool, true, false, List, length, Option, Some, None, Contains}
+use Rattle.repo_name.specs.declared.kinds.BlobKind.{BlobKind}
 use Rattle.repo_name.specs.declared.kinds.Kind.{Kind}
 use Rattle.repo_name.specs.declared.names.Name.{Name}
 use Rattle.repo_wire.specs.declared.messages.Code.{Code}
@@ -12,7 +13,7 @@ use Rattle.repo_tree.specs.declared.snapshots.Snapshot.{Snapshot}
 use Rattle.repo_tree.specs.Laws.{Agree}
 use Rattle.repo_tree.specs.Parts.{Blobs}
 use Rattle.repo_tree.specs.SnapshotText.{IsSnapshotText}
-use Rattle.repo_tree.specs.Spelling.{Spells, file_entry}
+use Rattle.repo_tree.specs.Spelling.{Spells, Reach, file_entry}
 use Rattle.repo_session.specs.Versions.{upto}
 use Rattle.repo_session.specs.Alone.{IsFit, AreVersionsUpto, IsSent, IsSpoken, NoClash}
 use Rattle.repo_session.specs.Askers.{Asker}
@@ -28,9 +29,10 @@ use Rattle.repo_session.specs.Trees.{HasRoot}
 use Rattle.repo_session.specs.declared.emissions.Emission.{Emission}
 use Rattle.repo_session.specs.declared.outcomes.End.{End}
 use Rattle.repo_session.specs.declared.outcomes.Outcome.{Outcome}
-use Rattle.repo_restore.specs.Listing.{list_task, ListAllows, ListGives, ListConcludes, list_rule}
+use Rattle.repo_restore.specs.Listing.{list_task, list_rule}
 use Rattle.repo_restore.specs.Beginnings.{SpellsFirst, IsBeginning}
-use Rattle.repo_restore.specs.Restoring.{Wish, restore_task, MayGive, IsFileAt, IsRestored, RestoreAllows, RestoreGives, RestoreConcludes, restore_rule}
+use Rattle.repo_restore.specs.Positions.{IsNextBlob}
+use Rattle.repo_restore.specs.Restoring.{Wish, restore_task, MayGive, IsFileAt, IsRestored, restore_rule}
 use Rattle.repo_restore.specs.RestoreStates.{FitsRestore, wish_of}
 use Rattle.repo_restore.specs.Walks.{ArePieces}
 use Rattle.repo_session.specs.declared.sessions.Session.{Session}
@@ -113,6 +115,12 @@ FileHolds es snapshot path bytes = (version : ℕ) × (root : Name) × HasRoot e
 abbrev pub ClosedIsWhole : Type 0
 ClosedIsWhole = (old new : Session Restore) (replies : List Reply) (talk : Talk) (before inside after : List Emission) (path : List (List ℕ)) (bytes : List ℕ) → RestoreTook old replies talk new
     → given_in talk ≡ before ++ Emission.File path ∷ (inside ++ Emission.Close ∷ after) → ArePieces inside bytes → CameIn replies (trace_of talk) × FileHolds (trace_of talk) (wish_of old).snapshot path bytes
+
+-- ---- what comes next
+
+-- the blob that comes next behind what was given out is one that the tree of the root reaches
+abbrev pub NextIsReached : Blobs → Type 0
+NextIsReached B = (version : ℕ) (root : Name) (emitted : List Emission) (kind : BlobKind) (name : Name) → IsNextBlob version B root emitted kind name → Reach version B root kind name
 
 -- ---- what is first
 

@@ -1,5 +1,5 @@
 -- What beginning a node gives.
-use Rattle.std.specs.Prelude.{◌≡◌, ◌≢◌, ◌⊎◌, ◌++◌, ◌∷◌, [], ℕ, List, slice_get, Option, Some, None, Contains}
+use Rattle.std.specs.Prelude.{◌≡◌, ◌≢◌, ◌⊎◌, ◌++◌, ◌∷◌, [], ℕ, List, slice_get, Option, Some, None}
 use Rattle.repo_name.specs.declared.kinds.BlobKind.{BlobKind}
 use Rattle.repo_name.specs.declared.kinds.Thing.{Thing}
 use Rattle.repo_name.specs.declared.names.Name.{Name}
@@ -10,6 +10,7 @@ use Rattle.repo_session.specs.declared.outcomes.End.{End}
 use Rattle.repo_restore.specs.declared.nodes.Begun.{Begun}
 use Rattle.repo_session.specs.Catalogs.{IsBlobNowhere}
 use Rattle.repo_restore.specs.Restoring.{Sums}
+use Rattle.repo_restore.specs.Walks.{LacksFirst}
 
 -- the blob of this kind and name comes next
 abbrev pub WaitsFor : List Fact → BlobKind → Name → Fact → Type 0
@@ -42,4 +43,4 @@ FileBegins facts tree path size content old new Begun.Done = (content ≡ []) ×
 FileBegins facts tree path size content old new (Begun.Waits fact) = (slice_get content 0 ≡ Some fact.name) × WaitsFor facts BlobKind.Content fact.name fact × Sums facts content size × (new ≡ old ++ Emission.File path ∷ [])
 FileBegins facts tree path size content old new (Begun.GoesOn fact) = ⊥
 FileBegins facts tree path size content old new (Begun.Ended end) = (new ≡ old)
-    × (((name : Name) × (end ≡ End.Missing Thing.Content name) × Contains content name × IsBlobNowhere facts BlobKind.Content name) ⊎ ((end ≡ End.BadObject Thing.Tree tree) × ((total : ℕ) × Sums facts content total × (total ≢ size))))
+    × (((name : Name) × (end ≡ End.Missing Thing.Content name) × LacksFirst facts content name) ⊎ ((end ≡ End.BadObject Thing.Tree tree) × ((total : ℕ) × Sums facts content total × (total ≢ size))))

@@ -1,11 +1,11 @@
 -- What is known while a snapshot is restored.
-use Rattle.std.specs.Prelude.{◌≡◌, [], ⊤, true, false, List, length, ◌∷◌, ℕ}
+use Rattle.std.specs.Prelude.{◌≡◌, ◌≤◌, ◌⊎◌, [], ⊤, true, false, List, length, ◌∷◌, ℕ}
 use Rattle.repo_name.specs.declared.kinds.Kind.{Kind}
 use Rattle.repo_name.specs.declared.names.Name.{Name}
 use Rattle.repo_wire.specs.declared.messages.Ask.{Ask}
 use Rattle.repo_wire.specs.declared.messages.Say.{Say}
 use Rattle.repo_index.specs.declared.facts.Fact.{Fact}
-use Rattle.repo_tree.specs.Spelling.{Spells}
+use Rattle.repo_tree.specs.Spelling.{Spells, greatest_depth}
 use Rattle.repo_session.specs.declared.emissions.Emission.{Emission}
 use Rattle.repo_session.specs.declared.jobs.Step.{Step}
 use Rattle.repo_session.specs.Askers.{Holding, Asker}
@@ -23,8 +23,10 @@ use Rattle.repo_restore.specs.declared.restores.Stage.{Stage}
 use Rattle.repo_restore.specs.declared.walks.Turn.{Turn}
 use Rattle.repo_restore.specs.declared.walks.Walk.{Walk}
 use Rattle.repo_session.specs.Received.{Received}
-use Rattle.repo_session.specs.Trees.{HasRoot}
-use Rattle.repo_restore.specs.Restoring.{Wish, counted, restore_rule}
+use Rattle.repo_session.specs.Trees.{HasRoot, Under}
+use Rattle.repo_session.specs.declared.outcomes.End.{End}
+use Rattle.repo_name.specs.declared.kinds.Thing.{Thing}
+use Rattle.repo_restore.specs.Restoring.{Wish, counted, HasGoneOn, IsAskedOnce, IsBrokenNext, restore_rule}
 use Rattle.repo_restore.specs.Walking.{WaitsForBlob, WalkEnds}
 use Rattle.repo_name.specs.Naming as naming
 use Rattle.repo_name.specs.declared.tokens.Token.{Token}
@@ -56,13 +58,14 @@ pub record IsNewRestore (j : Restore) : Type 0 where
   pub not_onward : j.walk.onward ≡ false
   pub none_given : j.given.items ≡ []
 
--- the walk waits for the blob that is asked for
+-- the walk waits for the blob that is asked for; where that is no further part, something was given out right before, or no blob was asked for
 pub record IsWalking (j : Restore) (version : ℕ) (fact : Fact) (es : Trace) : Type 0 where
   pub root : Name
   pub found : HasRoot es j.snapshot version root
   pub indexes : Catalogs j.catalog true es
   pub all : IsAll j.catalog
   pub waits : WaitsForBlob j.catalog.lookup version (Received es) root j.walk fact (emitted_in es)
+  pub went : j.walk.onward ≡ false → HasGoneOn es
 
 -- what is known at each stage where this is pending
 abbrev pub KnowsAtStage : Restore → Stage → Ask → Trace → Type 0
@@ -90,11 +93,20 @@ GoesOnKnown versions n say step = ⊤
 abbrev pub RestoreStays : Restore → Restore → Type 0
 RestoreStays old new = (new.given ≡ old.given) × ((ask : Ask) (es : Trace) → KnowsRestore old ask es → KnowsRestore new ask es)
 
+-- the tree that the newest exchange brought was next, and can't be restored
+abbrev pub IsRefused : Trace → ℕ → Name → End → Type 0
+IsRefused es version root end = (tree : Name) × (path : List (List ℕ)) × (end ≡ End.BadObject Thing.Tree tree) × Under version (Received es) root path tree × (length path ≤ greatest_depth) × IsBrokenNext es version root path tree
+
 -- what is known by what comes next of the walk
 abbrev pub RestoreTurnIs : List Fact → Walk → ℕ → Name → Trace → Turn → Type 0
 RestoreTurnIs facts walk version root es (Turn.Ask fact) = WaitsForBlob facts version (Received es) root walk fact (emitted_in es)
 RestoreTurnIs facts walk version root es (Turn.Complete count) = Spells version (Received es) root [] (rebuilt (emitted_in es)) × (count ≡ counted (length (rebuilt (emitted_in es)))) × AreWhole (emitted_in es)
-RestoreTurnIs facts walk version root es (Turn.Ended end) = WalkEnds facts version (Received es) root end
+RestoreTurnIs facts walk version root es (Turn.Ended end) = WalkEnds facts version (Received es) root (emitted_in es) end ⊎ IsRefused es version root end
+
+-- what is asked for next isn't asked for again; and where that is no further part, something was given out, or no blob was asked for
+abbrev pub TurnIsOnce : Walk → Trace → ℕ → Name → Turn → Type 0
+TurnIsOnce walk es version root (Turn.Ask fact) = IsAskedOnce es version root fact.kind fact.name × (walk.onward ≡ false → HasGoneOn es)
+TurnIsOnce walk es version root _ = ⊤
 
 -- all indexes were read, and the walk goes on so
 pub record IsTurnNext (j : Restore) (version : ℕ) (es : Trace) (turn : Turn) : Type 0 where
@@ -103,6 +115,7 @@ pub record IsTurnNext (j : Restore) (version : ℕ) (es : Trace) (turn : Turn) :
   pub indexes : Catalogs j.catalog true es
   pub all : IsAll j.catalog
   pub turns : RestoreTurnIs j.catalog.lookup j.walk version root es turn
+  pub once : TurnIsOnce j.walk es version root turn
 
 -- the restore stands where the trace leaves it
 abbrev pub FitsRestore : Session Restore → Trace → Type 0

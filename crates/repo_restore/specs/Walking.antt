@@ -1,5 +1,5 @@
 -- What a walk's calls give.
-use Rattle.std.specs.Prelude.{◌≡◌, ◌≢◌, ◌⊎◌, ◌+◌, ◌++◌, ◌∷◌, [], ℕ, zero, suc, Bool, true, false, List, length, take, slice_get, Option, Some, None, Contains}
+use Rattle.std.specs.Prelude.{◌≡◌, ◌≢◌, ◌⊎◌, ◌≤◌, ◌+◌, ◌++◌, ◌∷◌, [], ℕ, zero, suc, Bool, true, false, List, length, take, slice_get, Option, Some, None, Contains}
 use Rattle.repo_name.specs.declared.kinds.BlobKind.{BlobKind}
 use Rattle.repo_name.specs.declared.kinds.Thing.{Thing}
 use Rattle.repo_name.specs.declared.names.Name.{Name}
@@ -9,7 +9,7 @@ use Rattle.repo_tree.specs.declared.nodes.Node.{Node}
 use Rattle.repo_tree.specs.declared.nodes.NodeKind.{NodeKind}
 use Rattle.repo_tree.specs.Parts.{Blobs, IsPartText, ListsBy}
 use Rattle.repo_tree.specs.TreeText.{Follows, IsTreeText}
-use Rattle.repo_tree.specs.Spelling.{Spells, dir_entry}
+use Rattle.repo_tree.specs.Spelling.{Spells, Reach, greatest_depth, dir_entry}
 use Rattle.repo_session.specs.declared.emissions.Emission.{Emission}
 use Rattle.repo_session.specs.declared.outcomes.End.{End}
 use Rattle.repo_session.specs.Ends.{blob_thing}
@@ -22,11 +22,12 @@ use Rattle.repo_restore.specs.declared.walks.Walk.{Walk}
 use Rattle.repo_restore.specs.declared.steps.Stop.{Stop}
 use Rattle.repo_index.specs.Lookups.{IsLeast}
 use Rattle.repo_restore.specs.Nodes.{WaitsFor, DirBegins, FileBegins}
-use Rattle.repo_session.specs.Trees.{Under, IsNeeded, IsBroken}
+use Rattle.repo_session.specs.Trees.{Under, IsBroken}
 use Rattle.repo_restore.specs.Beginnings.{SpellsFirst}
+use Rattle.repo_restore.specs.Positions.{ComesBehind, ArePiecesOf, IsNextFile, IsNextBlob}
 use Rattle.repo_restore.specs.Restoring.{counted, Sums}
 use Rattle.repo_session.specs.Catalogs.{IsBlobNowhere}
-use Rattle.repo_restore.specs.Walks.{PartIs, WalkGives, is_open, WalkGave, WalkStopped, IsOpenLevel, DirectoryIsBegun, IsFile, LeadsOn, IsWriting, AtOpen}
+use Rattle.repo_restore.specs.Walks.{PartIs, LacksFirst, WalkGives, is_open, WalkGave, WalkStopped, IsOpenLevel, DirectoryIsBegun, IsFile, LeadsOn, IsWriting, AtOpen}
 use Rattle.repo_session.specs.Received.{Received}
 use Rattle.repo_name.specs.Naming as naming
 
@@ -52,7 +53,7 @@ pub record LevelEnds (facts : List Fact) (version : ℕ) (B : Blobs) (root first
 -- a blob that a node waits for, with what was given out up to it
 abbrev pub WaitsAs : List Fact → NodeKind → List (List ℕ) → Fact → List Entry → List Emission → Type 0
 WaitsAs facts (NodeKind.Dir subtree) path fact before emitted = WaitsFor facts BlobKind.Tree subtree fact × (rebuilt emitted ≡ before ++ dir_entry path ∷ [])
-WaitsAs facts (NodeKind.File size content) path fact before emitted = (slice_get content 0 ≡ Some fact.name) × WaitsFor facts BlobKind.Content fact.name fact × Sums facts content size × IsWriting emitted before path []
+WaitsAs facts (NodeKind.File size content) path fact before emitted = (slice_get content 0 ≡ Some fact.name) × WaitsFor facts BlobKind.Content fact.name fact × Sums facts content size × ((writing : IsWriting emitted before path []) × (writing.last ≡ []))
 
 -- a level, one node of which waits for a blob
 pub record WaitsIn (facts : List Fact) (version : ℕ) (B : Blobs) (root first : Name) (level : Level) (begun : ℕ) (before : List Entry) (old out : List Emission) (fact : Fact) : Type 0 where
@@ -71,26 +72,44 @@ pub record WaitsBehind (facts : List Fact) (version : ℕ) (B : Blobs) (root fir
   pub goes_on : level.next ≡ Some fact.name
   pub waits : WaitsFor facts BlobKind.Tree fact.name fact
 
--- a file whose blobs have another size
-abbrev pub IsUnevenIn : List Fact → List Node → Type 0
-IsUnevenIn facts nodes = (name : List ℕ) × (size : ℕ) × (content : List Name) × (total : ℕ) × Contains nodes (record { name = name; what = NodeKind.File size content }) × Sums facts content total × (total ≢ size)
+-- the tree, a part of a directory, lists the file that comes next behind what was given out, and the file's blobs have another size
+pub record IsUnevenIn (facts : List Fact) (version : ℕ) (B : Blobs) (root : Name) (emitted : List Emission) (tree : Name) : Type 0 where
+  pub directory : Name
+  pub parts : List (List Node)
+  pub behind : ComesBehind version B directory parts tree
+  pub nodes : List Node
+  pub read : ListsBy version B tree nodes
+  pub file : List ℕ
+  pub size : ℕ
+  pub content : List Name
+  pub among : Contains nodes (record { name = file; what = NodeKind.File size content })
+  pub next : IsNextFile version B root emitted directory file size content
+  pub total : ℕ
+  pub sums : Sums facts content total
+  pub other : total ≢ size
 
--- why the tree to which a path leads can't be restored: no directory has it, or it has a file whose blobs haven't its size
-abbrev pub IsUnfitIn : List Fact → ℕ → Blobs → Name → List (List ℕ) → Name → Type 0
-IsUnfitIn facts version B root path tree = IsBroken version B root path tree ⊎ ((nodes : List Node) × ListsBy version B tree nodes × IsUnevenIn facts nodes)
+-- a path that isn't too long leads to a tree that no directory has
+abbrev pub IsBrokenTree : ℕ → Blobs → Name → Name → Type 0
+IsBrokenTree version B root tree = (path : List (List ℕ)) × Under version B root path tree × (length path ≤ greatest_depth) × IsBroken version B root path tree
 
--- why a walk ends
-abbrev pub WalkEnds : List Fact → ℕ → Blobs → Name → End → Type 0
-WalkEnds facts version B root (End.Missing thing name) = (kind : BlobKind) × (thing ≡ blob_thing kind) × IsBlobNowhere facts kind name × IsNeeded version B root kind name
-WalkEnds facts version B root (End.BadObject thing tree) = (thing ≡ Thing.Tree) × ((path : List (List ℕ)) × Under version B root path tree × IsUnfitIn facts version B root path tree)
-WalkEnds facts version B root _ = ⊥
+-- the blob that has no place is the first that is looked up behind what was given out: the tree that comes next, or a blob of the file that does
+abbrev pub LacksBlob : BlobKind → List Fact → ℕ → Blobs → Name → List Emission → Name → Type 0
+LacksBlob BlobKind.Tree facts version B root emitted name = IsNextBlob version B root emitted BlobKind.Tree name
+LacksBlob BlobKind.Content facts version B root emitted name = (directory : Name) × (file : List ℕ) × (size : ℕ) × (content : List Name) × IsNextFile version B root emitted directory file size content × LacksFirst facts content name
 
--- what beginning a level's next nodes gives
+-- why a walk ends behind what was given out
+abbrev pub WalkEnds : List Fact → ℕ → Blobs → Name → List Emission → End → Type 0
+WalkEnds facts version B root emitted (End.Missing thing name) = (kind : BlobKind) × (thing ≡ blob_thing kind) × IsBlobNowhere facts kind name × Reach version B root kind name × LacksBlob kind facts version B root emitted name
+WalkEnds facts version B root emitted (End.BadObject thing tree) = (thing ≡ Thing.Tree) × ((path : List (List ℕ)) × Under version B root path tree × (length path ≤ greatest_depth)) × IsUnevenIn facts version B root emitted tree
+WalkEnds facts version B root emitted _ = ⊥
+
+-- what beginning a level's next nodes gives, wherever the open directories lead to it
 abbrev pub NextBegins : List Fact → ℕ → Blobs → Name → Name → Level → List Entry → List Emission → List Emission → ℕ → Begun → Type 0
 NextBegins facts version B root first level before old out now Begun.Done = LevelStands facts version B root first level (length level.nodes.items) before old out × (level.next ≡ None)
 NextBegins facts version B root first level before old out now (Begun.Waits fact) = WaitsIn facts version B root first level now before old out fact
 NextBegins facts version B root first level before old out now (Begun.GoesOn fact) = WaitsBehind facts version B root first level before old out fact
-NextBegins facts version B root first level before old out now (Begun.Ended end) = WalkEnds facts version B root end × LevelEnds facts version B root first level before old out
+NextBegins facts version B root first level before old out now (Begun.Ended end) = ((levels : List Level) → LeadsOn version B root root [] [] levels first level.path before → WalkEnds facts version B root (old ++ out) end)
+    × LevelEnds facts version B root first level before old out
 
 -- where a walk stops
 abbrev pub StopsAt : List Fact → ℕ → Blobs → Name → List Level → List Emission → List Emission → ℕ → ℕ → Begun → Type 0
@@ -99,13 +118,13 @@ StopsAt facts version B root levels old out depth begun (Begun.Waits fact) = (le
     × LeadsOn version B root root [] [] (take depth levels) first level.path before × WaitsIn facts version B root first level begun before old out fact
 StopsAt facts version B root levels old out depth begun (Begun.GoesOn fact) = (level : Level) × (first : Name) × (before : List Entry) × (slice_get levels depth ≡ Some level)
     × LeadsOn version B root root [] [] (take depth levels) first level.path before × WaitsBehind facts version B root first level before old out fact
-StopsAt facts version B root levels old out depth begun (Begun.Ended end) = WalkEnds facts version B root end × WalkStopped facts version B root old out
+StopsAt facts version B root levels old out depth begun (Begun.Ended end) = WalkEnds facts version B root (old ++ out) end × WalkStopped facts version B root old out
 
 -- a level of which so many nodes are begun
 abbrev pub with_begun : Level → ℕ → Level
 with_begun level begun = record { tree = level.tree; path = level.path; nodes = level.nodes; next = level.next; begun = begun }
 
--- a file of the innermost level waits for a blob, some first ones of it were given out
+-- a file of the innermost level waits for a blob, some first ones of it were given out, a piece each
 pub record FileWaits (facts : List Fact) (version : ℕ) (B : Blobs) (root : Name) (levels : List Level) (sent : ℕ) (fact : Fact) (emitted : List Emission) : Type 0 where
   pub above : List Level
   pub level : Level
@@ -123,10 +142,11 @@ pub record FileWaits (facts : List Fact) (version : ℕ) (B : Blobs) (root : Nam
   pub asked : slice_get content sent ≡ Some fact.name
   pub part : IsFile facts B size content sent bytes
   pub writing : IsWriting emitted (before ++ inside) (level.path ++ node.name ∷ []) bytes
+  pub pieces : ArePiecesOf B (take sent content) writing.last
 
--- the first tree of a directory waits
+-- the first tree of a directory waits, whose path isn't too long
 abbrev pub TreeWaits : ℕ → Blobs → Name → List Level → Fact → List Emission → Type 0
-TreeWaits version B root levels fact emitted = (path : List (List ℕ)) × LeadsOn version B root root [] [] levels fact.name path (rebuilt emitted) × Under version B root path fact.name
+TreeWaits version B root levels fact emitted = (path : List (List ℕ)) × LeadsOn version B root root [] [] levels fact.name path (rebuilt emitted) × Under version B root path fact.name × (length path ≤ greatest_depth)
 
 -- the next part of the innermost directory waits: all nodes of this one were given out
 pub record PartWaits (version : ℕ) (B : Blobs) (root : Name) (levels : List Level) (fact : Fact) (emitted : List Emission) : Type 0 where
@@ -158,11 +178,16 @@ pub record WalkWaits (facts : List Fact) (version : ℕ) (B : Blobs) (root : Nam
   pub waits : WaitsByKind fact.kind facts version B root levels sent onward fact emitted
   pub order : Follow false emitted (is_open fact.kind)
 
--- what comes of a step of a walk
-abbrev pub TurnGives : List Fact → ℕ → Blobs → Name → List Level → ℕ → Bool → ℕ → List Emission → List Emission → Turn → Type 0
-TurnGives facts version B root levels sent onward entries old out (Turn.Ask fact) = WalkWaits facts version B root levels sent onward entries fact (old ++ out) × Each (WalkGives facts version B root) out
-TurnGives facts version B root levels sent onward entries old out (Turn.Complete count) = Spells version B root [] (rebuilt (old ++ out)) × (count ≡ counted (length (rebuilt (old ++ out)))) × WalkGave facts version B root false old out
-TurnGives facts version B root levels sent onward entries old out (Turn.Ended end) = WalkEnds facts version B root end × WalkStopped facts version B root old out
+-- the tree that came, if one did, can't be taken: it was next, and no directory has it; nothing more is given out
+abbrev pub RefusesTree : Option Name → ℕ → Blobs → Name → List Emission → List Emission → End → Type 0
+RefusesTree None version B root old out end = ⊥
+RefusesTree (Some tree) version B root old out end = (end ≡ End.BadObject Thing.Tree tree) × (out ≡ []) × IsNextBlob version B root old BlobKind.Tree tree × IsBrokenTree version B root tree
+
+-- what comes of a step of a walk, on the blob that came, if one did
+abbrev pub TurnGives : Option Name → List Fact → ℕ → Blobs → Name → List Level → ℕ → Bool → ℕ → List Emission → List Emission → Turn → Type 0
+TurnGives came facts version B root levels sent onward entries old out (Turn.Ask fact) = WalkWaits facts version B root levels sent onward entries fact (old ++ out) × Each (WalkGives facts version B root) out
+TurnGives came facts version B root levels sent onward entries old out (Turn.Complete count) = Spells version B root [] (rebuilt (old ++ out)) × (count ≡ counted (length (rebuilt (old ++ out)))) × WalkGave facts version B root false old out
+TurnGives came facts version B root levels sent onward entries old out (Turn.Ended end) = (WalkEnds facts version B root (old ++ out) end ⊎ RefusesTree came version B root old out end) × WalkStopped facts version B root old out
 
 -- ---- over the code's own type
 
@@ -171,8 +196,8 @@ abbrev pub WaitsForBlob : List Fact → ℕ → Blobs → Name → Walk → Fact
 WaitsForBlob facts version B root w fact emitted = WalkWaits facts version B root w.levels.items w.sent w.onward w.entries fact emitted
 
 -- what comes of a step of it
-abbrev pub Turns : List Fact → ℕ → Blobs → Name → Walk → List Emission → List Emission → Turn → Type 0
-Turns facts version B root w old out turn = TurnGives facts version B root w.levels.items w.sent w.onward w.entries old out turn
+abbrev pub Turns : Option Name → List Fact → ℕ → Blobs → Name → Walk → List Emission → List Emission → Turn → Type 0
+Turns came facts version B root w old out turn = TurnGives came facts version B root w.levels.items w.sent w.onward w.entries old out turn
 
 -- the node that is begun of a level
 abbrev pub NodeHasBegun : Level → Node → Type 0
@@ -212,25 +237,25 @@ IsOpenContent levels names = (above : List Level) (level : Level) (node : Node) 
 
 -- at a stop
 abbrev pub TurnsAtStop : Stop → List Emission → Walk → Turn → Walk → Type 0
-TurnsAtStop stop out walk turn new = (facts : List Fact) (gs : Trace) (version : ℕ) (root : Name) (old : List Emission)
+TurnsAtStop stop out walk turn new = (came : Option Name) (facts : List Fact) (gs : Trace) (version : ℕ) (root : Name) (old : List Emission)
     → StopsAt facts version (Received gs) root walk.levels.items old out stop.depth stop.begun stop.what → walk.entries ≡ counted (length (rebuilt old))
-    → Turns facts version (Received gs) root new old out turn
+    → Turns came facts version (Received gs) root new old out turn
 
 -- on the nodes of the tree that it waited for: the first one of a directory, or the next part of the innermost
 abbrev pub EntersTree : Bool → List Fact → Name → List Node → Option Name → Walk → List Emission → List Emission → Turn → Walk → Type 0
 EntersTree onward facts tree nodes next walk before out turn new = (gs : Trace) (version : ℕ) (root : Name) (fact : Fact) (old : List Emission) → WaitsForBlob facts version (Received gs) root walk fact old
-    → walk.onward ≡ onward → fact.kind ≡ BlobKind.Tree → fact.name ≡ tree → PartIs version (Received gs) tree nodes next → before ≡ [] → Turns facts version (Received gs) root new old out turn
+    → walk.onward ≡ onward → fact.kind ≡ BlobKind.Tree → fact.name ≡ tree → PartIs version (Received gs) tree nodes next → before ≡ [] → Turns (Some tree) facts version (Received gs) root new old out turn
 
 -- on the content that it waited for
 abbrev pub TakesContent : List Fact → List ℕ → Walk → List Emission → List Emission → Turn → Walk → Type 0
 TakesContent facts bytes walk before out turn new = (gs : Trace) (version : ℕ) (root : Name) (fact : Fact) (old : List Emission) → WaitsForBlob facts version (Received gs) root walk fact old
     → fact.kind ≡ BlobKind.Content → Received gs BlobKind.Content bytes → naming.name bytes ≡ fact.name → length bytes ≡ fact.place.length → before ≡ []
-    → Turns facts version (Received gs) root new old out turn
+    → Turns (Some fact.name) facts version (Received gs) root new old out turn
 
 -- on the blob that it waited for, by the version of the snapshot
 abbrev pub TakesBlob : ℕ → List Fact → Fact → List ℕ → Walk → List Emission → List Emission → Turn → Walk → Type 0
 TakesBlob version facts fact bytes walk before out turn new = (gs : Trace) (root : Name) (old : List Emission) → WaitsForBlob facts version (Received gs) root walk fact old
-    → Received gs fact.kind bytes → naming.name bytes ≡ fact.name → length bytes ≡ fact.place.length → before ≡ [] → Turns facts version (Received gs) root new old out turn
+    → Received gs fact.kind bytes → naming.name bytes ≡ fact.name → length bytes ≡ fact.place.length → before ≡ [] → Turns (Some fact.name) facts version (Received gs) root new old out turn
 
 -- the text is that of such a part, by the version
 abbrev pub IsTextBy : ℕ → List ℕ → List Node → Option Name → Type 0

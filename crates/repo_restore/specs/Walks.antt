@@ -1,10 +1,8 @@
 -- Where a walk over trees stands.
-use Rattle.std.specs.Prelude.{◌≡◌, ◌≢◌, ◌<◌, ◌⊎◌, ◌+◌, ◌++◌, ◌∷◌, [], ⊤, ℕ, zero, suc, Bool, true, false, List, length, flat_map, take, drop, slice_get, Option, Some, None, Contains}
+use Rattle.std.specs.Prelude.{◌≡◌, ◌≢◌, ◌<◌, ◌≤◌, ◌⊎◌, ◌+◌, ◌++◌, ◌∷◌, [], ⊤, ℕ, zero, suc, Bool, true, false, List, length, take, drop, slice_get, Option, Some, None}
 use Rattle.repo_name.specs.declared.kinds.BlobKind.{BlobKind}
 use Rattle.repo_name.specs.declared.names.Name.{Name}
-use Rattle.repo_pack.specs.declared.places.Place.{Place}
 use Rattle.repo_index.specs.declared.facts.Fact.{Fact}
-use Rattle.repo_index.specs.Lookups.{IsLeast}
 use Rattle.repo_tree.specs.declared.entries.Entry.{Entry}
 use Rattle.repo_tree.specs.declared.nodes.Node.{Node}
 use Rattle.repo_tree.specs.declared.nodes.NodeKind.{NodeKind}
@@ -19,6 +17,7 @@ use Rattle.repo_session.specs.Trees.{Under, IsNodeAt}
 use Rattle.repo_restore.specs.declared.nodes.Filed.{Filed}
 use Rattle.repo_restore.specs.declared.nodes.Level.{Level}
 use Rattle.repo_restore.specs.Beginnings.{IsBeginning}
+use Rattle.repo_restore.specs.Positions.{ComesBehind, LaterHaveNodes, nodes_in}
 use Rattle.repo_restore.specs.Restoring.{Sums}
 
 -- what a walk may give out: directories and files that received trees have at their paths, each file only where its blobs have places and its size; and
@@ -49,10 +48,19 @@ abbrev pub LeftOf : Option ℕ → ℕ → ℕ → Type 0
 LeftOf None size total = size < total
 LeftOf (Some left) size total = left + total ≡ size
 
+-- the first of these content blobs that the facts give no place
+pub record LacksFirst (facts : List Fact) (content : List Name) (name : Name) : Type 0 where
+  pub earlier : List Name
+  pub later : List Name
+  pub total : ℕ
+  pub all : content ≡ earlier ++ name ∷ later
+  pub sums : Sums facts earlier total
+  pub none : IsBlobNowhere facts BlobKind.Content name
+
 -- what looking up a file's blobs gives
 abbrev pub Files : List Fact → ℕ → List Name → Filed → Type 0
 Files facts size content Filed.Even = Sums facts content size
-Files facts size content (Filed.Missing name) = Contains content name × IsBlobNowhere facts BlobKind.Content name
+Files facts size content (Filed.Missing name) = LacksFirst facts content name
 Files facts size content Filed.Uneven = (total : ℕ) × Sums facts content total × (total ≢ size)
 
 -- by the version of a snapshot, the tree is a part of these nodes, which goes on in this tree; in one tree a directory goes on in none
@@ -60,36 +68,15 @@ abbrev pub PartIs : ℕ → Blobs → Name → List Node → Option Name → Typ
 PartIs (suc (suc zero)) B t nodes next = IsPart B t nodes next
 PartIs _ B t nodes next = IsTree B t nodes × (next ≡ None)
 
--- parts lead on from one to the next; the last one goes on in this tree, without parts it is the first
-abbrev pub LeadsThrough : Blobs → Name → List (List Node) → Name → Type 0
-LeadsThrough B first [] tree = tree ≡ first
-LeadsThrough B first (nodes ∷ parts) tree = (next : Name) × IsPart B first nodes (Some next) × LeadsThrough B next parts tree
-
--- by the version; a directory in one tree has no parts before it
-abbrev pub ComesBehind : ℕ → Blobs → Name → List (List Node) → Name → Type 0
-ComesBehind (suc (suc zero)) B first parts tree = LeadsThrough B first parts tree
-ComesBehind _ B first parts tree = (tree ≡ first) × (parts ≡ [])
-
--- each of them has a node; and each but the first
-abbrev pub HaveNodes : List (List Node) → Type 0
-HaveNodes [] = ⊤
-HaveNodes (nodes ∷ parts) = (nodes ≢ []) × HaveNodes parts
-
-abbrev pub LaterHaveNodes : List (List Node) → Type 0
-LaterHaveNodes [] = ⊤
-LaterHaveNodes (first ∷ parts) = HaveNodes parts
-
--- the nodes of parts, one after another
-abbrev pub nodes_in : List (List Node) → List Node
-nodes_in parts = flat_map (λ part. part) parts
-
--- Of the directory of the first tree, the part that is given out was received, and so were those before it; and what they and its first nodes spell is known.
+-- Of the directory of the first tree, whose path isn't too long, the part that is given out was received, and so were those before it; and what they and
+-- its first nodes spell is known.
 pub record IsOpenLevel (version : ℕ) (B : Blobs) (root first tree : Name) (path : List (List ℕ)) (nodes : List Node) (next : Option Name) (begun : ℕ) (inside : List Entry) : Type 0 where
   pub parts : List (List Node)
   pub behind : ComesBehind version B first parts tree
   pub later : LaterHaveNodes parts
   pub full : parts ≢ [] → nodes ≢ []
   pub under : Under version B root path tree
+  pub within : length path ≤ greatest_depth
   pub read : PartIs version B tree nodes next
   pub ordered : AreInOrder (nodes_in parts ++ nodes)
   pub shallow : (length path < greatest_depth) ⊎ (nodes_in parts ++ nodes ≡ [])

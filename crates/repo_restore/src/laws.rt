@@ -1,7 +1,7 @@
 //! What holds of a restore and of a list that are alone with their store, and of a restore whatever the replies, by the
 //! definitions alone. Each function is empty, and its contract is the law.
 
-ghost use Rattle.repo_restore.specs.Laws.{RestoreChangesNothing, ListChangesNothing, ListEndsWell, RestoreEndsWell, RestoredIsWhatCame, GivenIsWhatCame, GivenIsABeginning, FirstIsOfAll, RestoreGivesFirst, ClosedIsWhole};
+ghost use Rattle.repo_restore.specs.Laws.{RestoreChangesNothing, ListChangesNothing, ListEndsWell, RestoreEndsWell, RestoredIsWhatCame, GivenIsWhatCame, GivenIsABeginning, FirstIsOfAll, RestoreGivesFirst, ClosedIsWhole, NextIsReached};
 
 use repo_tree::laws::BlobSet;
 
@@ -52,6 +52,12 @@ pub fn given_is_a_beginning()
 /// that a tree which was received lists at its path, in the blobs that were received.
 pub fn closed_is_whole()
     ensures { ClosedIsWhole }
+{}
+
+/// The blob that comes next behind what was given out, in whatever blobs, is one that the root's tree reaches in them: so a
+/// restore asks for no others.
+pub fn next_is_reached<B: BlobSet>()
+    ensures { NextIsReached B.has }
 {}
 
 /// What a tree spells first in some blobs is the first of all that it spells in others, where no two blobs of one kind and

@@ -6,6 +6,7 @@ ghost use Rattle.repo_session.specs.Rebuilding.{rebuilt};
 ghost use Rattle.repo_restore.specs.declared.nodes.Level.{Level};
 ghost use Rattle.repo_restore.specs.Restoring.{counted};
 ghost use Rattle.repo_restore.specs.Walking.{NodeBegins, BeginsNext, GoesToStop};
+ghost use Rattle.repo_restore.specs.Moves.{NextMoves, StopMoves};
 
 use crate::nodes::{Begun, Level, begin_dir, begin_file, next_part, path_of};
 use repo_index::Lookup;
@@ -83,7 +84,8 @@ fn begin_next(
     begun: usize,
     out: &mut Vec<Emission>,
 ) -> Result<Next, AllocError>
-    ensures { IfOk result (λ next. BeginsNext lookup.now level.now begun out.old.items out.new.items next.begun next.what) }
+    ensures begins { IfOk result (λ next. BeginsNext lookup.now level.now begun out.old.items out.new.items next.begun next.what) }
+    ensures moves { IfOk result (λ next. NextMoves level.now.nodes.items begun out.old.items out.new.items next.what) }
 {
     for at in begun..level.nodes.len() {
         match begin_node(alloc, lookup, level, &level.nodes[at], out)? {
@@ -135,7 +137,8 @@ pub fn go_on(
     begun: usize,
     out: &mut Vec<Emission>,
 ) -> Result<Stop, AllocError>
-    ensures { IfOk result (λ stop. GoesToStop lookup.now levels.now begun out.old.items out.new.items stop.depth stop.begun stop.what) }
+    ensures goes { IfOk result (λ stop. GoesToStop lookup.now levels.now begun out.old.items out.new.items stop.depth stop.begun stop.what) }
+    ensures moves { IfOk result (λ stop. StopMoves levels.now begun out.old.items out.new.items stop.what) }
 {
     let mut begun = begun;
     for up in 0..levels.len() {

@@ -1,6 +1,6 @@
 //! A walk over the trees of a snapshot, node by node.
 
-ghost use Rattle.std.specs.Prelude.{◌≡◌, ◌≢◌, ◌⊎◌, ◌≤◌, ◌<◌, ◌+◌, ◌++◌, ◌∷◌, [], ℕ, List, true, false, length, take, slice_get, Some, ◌↔◌, option_map, IfOk, IfErr, OnErr, IsTrue, IsFalse};
+ghost use Rattle.std.specs.Prelude.{◌≡◌, ◌≢◌, ◌⊎◌, ◌≤◌, ◌<◌, ◌+◌, ◌++◌, ◌∷◌, [], ℕ, List, true, false, length, take, slice_get, Some, None, ◌↔◌, option_map, IfOk, IfErr, OnErr, IsTrue, IsFalse};
 ghost use Rattle.repo_tree.specs.declared.faults.TreeError.{TreeError};
 ghost use Rattle.std.specs.Ordering.{nat_cmp};
 ghost use Rattle.std.specs.declared.cmp.Ordering.{Ordering};
@@ -18,6 +18,7 @@ ghost use Rattle.repo_session.specs.Traces.{Each, Trace};
 ghost use Rattle.repo_restore.specs.declared.nodes.Level.{Level};
 ghost use Rattle.repo_session.specs.Received.{Received};
 ghost use Rattle.repo_restore.specs.Walking.{with_begun, WaitsForBlob, Turns, NodeHasBegun, IsNextPath, IsLastPath, MayFollow, IsTextBy, IsOpenContent, TurnsAtStop, EntersTree, TakesContent, TakesBlob};
+ghost use Rattle.repo_restore.specs.Moves.{AsksFor, GivesSome, TreeMoves, BlobMoves};
 
 use crate::nodes::{Begun, Level, next_blob, path_of};
 use crate::steps::{Stop, count_entries, go_on};
@@ -112,7 +113,8 @@ fn may_follow(before: &[Node], nodes: &[Node]) -> bool
 
 /// Whether nodes may come behind those of the innermost level.
 fn come_behind(levels: &[Level], nodes: &[Node]) -> bool
-    ensures { (above : List Level) (level : Level) → levels.now ≡ above ++ level ∷ [] → IsTrue result ↔ MayFollow level.nodes.items nodes.now }
+    ensures may { (above : List Level) (level : Level) → levels.now ≡ above ++ level ∷ [] → IsTrue result ↔ MayFollow level.nodes.items nodes.now }
+    ensures some { IsTrue result → nodes.now ≢ [] }
 {
     match levels.last() {
         Some(level) => may_follow(level.nodes.as_slice(), nodes),
@@ -219,7 +221,7 @@ impl Walk {
 
     /// Looks up the tree of the root. It takes no memory.
     pub fn start(&self, lookup: &Lookup, root: Name) -> Turn
-        ensures { (gs : Trace) (version : ℕ) → self.now.levels.items ≡ [] → self.now.entries ≡ 0 → self.now.onward ≡ false → Turns lookup.now version (Received gs) root self.now [] [] result }
+        ensures { (gs : Trace) (version : ℕ) → self.now.levels.items ≡ [] → self.now.entries ≡ 0 → self.now.onward ≡ false → Turns None lookup.now version (Received gs) root self.now [] [] result }
     {
         match lookup.find(BlobKind::Tree, &root) {
             Some(place) => Turn::Ask(Fact {
@@ -233,7 +235,8 @@ impl Walk {
 
     /// Stops where the steps did.
     fn stop_at(&mut self, stop: Stop, out: &[Emission]) -> Turn
-        ensures { TurnsAtStop stop out.now self.old result self.new }
+        ensures turns { TurnsAtStop stop out.now self.old result self.new }
+        ensures asks { AsksFor stop.what result self.new }
     {
         let entries = self.entries.saturating_add(count_entries(out));
         match stop.what {
@@ -279,6 +282,7 @@ impl Walk {
         out: &mut Vec<Emission>,
     ) -> Result<Turn, AllocError>
         ensures ok { IfOk result (λ turn. EntersTree false lookup.now tree nodes.items next self.old out.old.items out.new.items turn self.new) }
+        ensures moves { IfOk result (λ turn. TreeMoves nodes.items out.new.items turn self.new) }
         ensures levels { OnErr result (self.new.levels.items ≡ self.old.levels.items) }
         ensures sent { OnErr result (self.new.sent ≡ self.old.sent) }
         ensures onward { OnErr result (self.new.onward ≡ self.old.onward) }
@@ -325,6 +329,7 @@ impl Walk {
         out: &mut Vec<Emission>,
     ) -> Result<Turn, AllocError>
         ensures ok { IfOk result (λ turn. EntersTree true lookup.now tree nodes.items next self.old out.old.items out.new.items turn self.new) }
+        ensures moves { IfOk result (GivesSome out.new.items) }
         ensures levels { OnErr result (self.new.levels.items ≡ self.old.levels.items) }
         ensures sent { OnErr result (self.new.sent ≡ self.old.sent) }
         ensures onward { OnErr result (self.new.onward ≡ self.old.onward) }
@@ -362,6 +367,7 @@ impl Walk {
         out: &mut Vec<Emission>,
     ) -> Result<Turn, AllocError>
         ensures ok { IfOk result (λ turn. TakesContent lookup.now bytes.now self.old out.old.items out.new.items turn self.new) }
+        ensures moves { IfOk result (GivesSome out.new.items) }
         ensures levels { OnErr result (self.new.levels.items ≡ self.old.levels.items) }
         ensures sent { OnErr result (self.new.sent ≡ self.old.sent) }
         ensures onward { OnErr result (self.new.onward ≡ self.old.onward) }
@@ -396,6 +402,8 @@ impl Walk {
         out: &mut Vec<Emission>,
     ) -> Result<Turn, AllocError>
         ensures ok { IfOk result (λ turn. EntersTree self.old.onward lookup.now tree nodes.items next self.old out.old.items out.new.items turn self.new) }
+        ensures moves { IfOk result (λ turn. TreeMoves nodes.items out.new.items turn self.new) }
+        ensures parts { self.old.onward ≡ true → IfOk result (GivesSome out.new.items) }
         ensures levels { OnErr result (self.new.levels.items ≡ self.old.levels.items) }
         ensures sent { OnErr result (self.new.sent ≡ self.old.sent) }
         ensures onward { OnErr result (self.new.onward ≡ self.old.onward) }
@@ -418,6 +426,7 @@ impl Walk {
         out: &mut Vec<Emission>,
     ) -> Result<Turn, AllocError>
         ensures ok { IfOk result (λ turn. TakesBlob version lookup.now fact bytes.now self.old out.old.items out.new.items turn self.new) }
+        ensures moves { IfOk result (λ turn. BlobMoves version fact bytes.now self.old out.new.items turn self.new) }
         ensures levels { OnErr result (self.new.levels.items ≡ self.old.levels.items) }
         ensures sent { OnErr result (self.new.sent ≡ self.old.sent) }
         ensures onward { OnErr result (self.new.onward ≡ self.old.onward) }

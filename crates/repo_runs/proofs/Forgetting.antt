@@ -148,7 +148,7 @@ module _ (host : List ℕ) (time : ℕ) (config pack index snapshot : List ℕ) 
 
     -- it is listed, and chosen by its name
     chooses : MayForget choice f1 ns
-    chooses = record { rows = []; decided = record { complete = refl; rise = record { ascend = (tt, tt); moves = no_next } }; among = inl refl; chosen = chosen; once = λ has. absurd (none_contained ns has) }
+    chooses = record { rows = []; decided = record { complete = refl; rise = record { ascend = (tt, tt); moves = no_next } }; among = inl refl; chosen = chosen }
 
     obeys : Obeys task (Owes (Job.Forget choice)) GivesAny forgetting
     obeys = (

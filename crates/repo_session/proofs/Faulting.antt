@@ -1,6 +1,5 @@
 -- A fault of a text for who knows fewer versions is one for who knows more, but for the version itself.
 use Rattle.std.proofs.Common.{◌≢◌, ◌≤◌, ℕ, List, inl, inr, ⊎_elim, refl, arith}
-use Rattle.repo_tree.specs.ConfigText.{ConfigFault}
 use Rattle.repo_tree.specs.SnapshotText.{SnapshotFault}
 use Rattle.repo_tree.specs.Versions.{greatest_version, IsKnownTo}
 use Rattle.repo_tree.specs.declared.faults.TextError.{TextError}
@@ -15,14 +14,6 @@ known_exist Versions.Both = omega arith
 module _ (known : ℕ) (few : known ≤ greatest_version) where
   known_still : (v : ℕ) → IsKnownTo known v → IsKnownTo greatest_version v
   known_still v h = (h.0, omega (arith, few, h.1))
-
-  pub config_fault : (x : List ℕ) (fault : TextError) → fault ≢ TextError.Version → ConfigFault known x fault → ConfigFault greatest_version x fault
-  config_fault x TextError.TooLarge other h = h
-  config_fault x TextError.Json other h = h
-  config_fault x TextError.Shape other h = (h.0, h.1, ⊎_elim inl (λ m. inr (m.0, m.1, known_still m.0 m.2, m.3)) h.2)
-  config_fault x TextError.Version other h = absurd (other refl)
-  config_fault x TextError.Params other h = (h.0, h.1, h.2, h.3, known_still h.1.version h.4, h.5)
-  config_fault x TextError.Memory other h = h
 
   pub snapshot_fault : (x : List ℕ) (fault : TextError) → fault ≢ TextError.Version → SnapshotFault known x fault → SnapshotFault greatest_version x fault
   snapshot_fault x TextError.TooLarge other h = h

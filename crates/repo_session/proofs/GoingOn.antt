@@ -27,19 +27,19 @@ asks_work (Ask.Unlock token) thing name a = absurd a
 asks_work Ask.Locks thing name a = absurd a
 asks_work Ask.Config thing name a = absurd a
 
-bad_work : (es : Trace) (ask : Ask) (say : Say) (thing : Thing) (name : Name) → IsBad es ask say thing name → IsWork ask
-bad_work es (Ask.Get k n) say thing name a = tt
-bad_work es (Ask.Range pack offset len) say thing name a = tt
-bad_work es (Ask.List k after) say thing name a = tt
-bad_work es (Ask.Put token k n x) say thing name a = tt
-bad_work es (Ask.Delete token k n) say thing name a = tt
-bad_work es (Ask.Upgrade token) say thing name a = tt
-bad_work es Ask.Ticket say thing name a = absurd a
-bad_work es (Ask.Lock row) say thing name a = absurd a
-bad_work es (Ask.Refresh token time) say thing name a = absurd a
-bad_work es (Ask.Unlock token) say thing name a = absurd a
-bad_work es Ask.Locks say thing name a = absurd a
-bad_work es Ask.Config say thing name a = absurd a
+bad_work : (known : ℕ) (es : Trace) (ask : Ask) (say : Say) (thing : Thing) (name : Name) → IsBad known es ask say thing name → IsWork ask
+bad_work known es (Ask.Get k n) say thing name a = tt
+bad_work known es (Ask.Range pack offset len) say thing name a = tt
+bad_work known es (Ask.List k after) say thing name a = tt
+bad_work known es (Ask.Put token k n x) say thing name a = tt
+bad_work known es (Ask.Delete token k n) say thing name a = tt
+bad_work known es (Ask.Upgrade token) say thing name a = tt
+bad_work known es Ask.Ticket say thing name a = absurd a
+bad_work known es (Ask.Lock row) say thing name a = absurd a
+bad_work known es (Ask.Refresh token time) say thing name a = absurd a
+bad_work known es (Ask.Unlock token) say thing name a = absurd a
+bad_work known es Ask.Locks say thing name a = absurd a
+bad_work known es Ask.Config say thing name a = absurd a
 
 part_work : (ask : Ask) → AsksPart ask → IsWork ask
 part_work (Ask.Range pack offset len) a = tt
@@ -56,19 +56,19 @@ part_work Ask.Locks a = absurd a
 part_work Ask.Config a = absurd a
 
 -- what is bad came
-bad_came : (es : Trace) (ask : Ask) (say : Say) (thing : Thing) (name : Name) → IsBad es ask say thing name → IsUnwelcome ask say → ⊥
-bad_came es (Ask.Get k n) say thing name a u = subst (λ s. IsUnwelcome (Ask.Get k n) s) a.1 u tt
-bad_came es (Ask.Range pack offset len) say thing name a u = subst (λ s. IsUnwelcome (Ask.Range pack offset len) s) a.2 u tt
-bad_came es (Ask.List k after) say thing name a u = a
-bad_came es (Ask.Put token k n x) say thing name a u = a
-bad_came es (Ask.Delete token k n) say thing name a u = a
-bad_came es (Ask.Upgrade token) say thing name a u = a
-bad_came es Ask.Ticket say thing name a u = a
-bad_came es (Ask.Lock row) say thing name a u = a
-bad_came es (Ask.Refresh token time) say thing name a u = a
-bad_came es (Ask.Unlock token) say thing name a u = a
-bad_came es Ask.Locks say thing name a u = a
-bad_came es Ask.Config say thing name a u = a
+bad_came : (known : ℕ) (es : Trace) (ask : Ask) (say : Say) (thing : Thing) (name : Name) → IsBad known es ask say thing name → IsUnwelcome ask say → ⊥
+bad_came known es (Ask.Get k n) say thing name a u = subst (λ s. IsUnwelcome (Ask.Get k n) s) a.1 u tt
+bad_came known es (Ask.Range pack offset len) say thing name a u = subst (λ s. IsUnwelcome (Ask.Range pack offset len) s) a.2 u tt
+bad_came known es (Ask.List k after) say thing name a u = a
+bad_came known es (Ask.Put token k n x) say thing name a u = a
+bad_came known es (Ask.Delete token k n) say thing name a u = a
+bad_came known es (Ask.Upgrade token) say thing name a u = a
+bad_came known es Ask.Ticket say thing name a u = a
+bad_came known es (Ask.Lock row) say thing name a u = a
+bad_came known es (Ask.Refresh token time) say thing name a u = a
+bad_came known es (Ask.Unlock token) say thing name a u = a
+bad_came known es Ask.Locks say thing name a u = a
+bad_came known es Ask.Config say thing name a u = a
 
 -- that a thing isn't there, or doesn't reach so far, tells a fault
 missing_tells : (ask : Ask) (say : Say) (thing : Thing) (name : Name) → AsksFor ask thing name → say ≡ Say.Refused Code.Missing → TellsFault ask say
@@ -133,7 +133,7 @@ spent_end es = λ is. absurd (cc)
 -- it ends on the reply to a request of its own
 pub own_end : (known : ℕ) (e : Exchange) (es : Trace) (end : End) → ¬ IsWork e.ask → CausedBy known (e ∷ es) e.ask e.say end → IsNoFaultsEnd (e ∷ es) (Outcome.Ended end)
 own_end known e es (End.Missing thing name) own caused = absurd (own (asks_work e.ask thing name caused.0))
-own_end known e es (End.BadObject thing name) own caused = absurd (own (bad_work (e ∷ es) e.ask e.say thing name caused))
+own_end known e es (End.BadObject thing name) own caused = absurd (own (bad_work known (e ∷ es) e.ask e.say thing name caused))
 own_end known e es (End.Refused code) own caused = λ is part. own (part_work e.ask part)
 own_end known e es End.Busy own caused = tt
 own_end known e es End.Fenced own caused = tt
@@ -145,7 +145,7 @@ own_end known e es End.Abandoned own caused = tt
 
 no_fault : (known : ℕ) (e : Exchange) (es : Trace) (end : End) → IsUnwelcome e.ask e.say → ¬ TellsFault e.ask e.say → CausedBy known (e ∷ es) e.ask e.say end → IsNoFaultsEnd (e ∷ es) (Outcome.Ended end)
 no_fault known e es (End.Missing thing name) unwelcome untold caused = absurd (untold (missing_tells e.ask e.say thing name caused.0 caused.1))
-no_fault known e es (End.BadObject thing name) unwelcome untold caused = absurd (bad_came (e ∷ es) e.ask e.say thing name caused unwelcome)
+no_fault known e es (End.BadObject thing name) unwelcome untold caused = absurd (bad_came known (e ∷ es) e.ask e.say thing name caused unwelcome)
 no_fault known e es (End.Refused code) unwelcome untold caused = λ is part. untold (part_tells e.ask e.say part (caused.0 ∙ ap Say.Refused is))
 no_fault known e es End.Busy unwelcome untold caused = tt
 no_fault known e es End.Fenced unwelcome untold caused = tt

@@ -1,5 +1,5 @@
 -- A flow, as an event changes one of its seats.
-use Rattle.std.proofs.Common.{Bool, Bor, ◌≡◌, ◌∙◌, inl, inr, ◌<◌, ◌-◌, ◌++◌, ◌∷◌, [], ℕ, zero, suc, true, false, List, length, map, slice_get, slice_set, slice_index_or, Option, Some, None, is_some, option_map, refl, sym, ap, subst, arith, append-nil, length-append, ◌^◌, lit≤}
+use Rattle.std.proofs.Common.{Bool, Bor, ◌≡◌, ◌∙◌, inl, inr, ◌<◌, ◌-◌, ◌++◌, ◌∷◌, [], ℕ, zero, suc, true, false, List, length, map, slice_get, slice_set, slice_index_or, Option, Some, None, is_some, option_map, refl, sym, ap, subst, arith, append-nil, length-append, ◌^◌, lit≤, ⊎_elim, Contains}
 use Rattle.std.proofs.lemmas.List.{get_or-set_same, length-map, map-append, map-set}
 use Rattle.std.proofs.lemmas.Option.{slice_get-map, slice_get_read}
 use Rattle.std.specs.Option.{IfSome, MatchOption, option_copied}
@@ -31,7 +31,8 @@ use Rattle.repo_world.specs.declared.any_clients.AnyClient.{AnyClient}
 use Rattle.repo_world.specs.declared.events.Applied.{Applied}
 use Rattle.repo_world.specs.declared.jobs.Job.{Job}
 use Rattle.repo_world.specs.declared.messages.Message.{Message}
-use Rattle.repo_world.proofs.Flowing.{GoesOn, Grows, all_there, client_there, goes_same, grows_end, grows_set, messages_more, messages_same, there_more}
+use Rattle.repo_world.proofs.Flowing.{GoesOn, Grows, all_kept, all_set, all_started, all_there, client_there, goes_same, grows_end, grows_set, messages_more, messages_same, there_more, within_end}
+use Rattle.repo_name.proofs.Containing.{first_contained}
 use Rattle.repo_world.proofs.Owing.{ruled_dutiful}
 use Rattle.repo_world.proofs.Seating.{each_end}
 use Rattle.repo_world.proofs.Starting.{no_outcome_yet, ticket_pending}
@@ -105,6 +106,7 @@ module _ (seats : List Seated) (messages : List Message) (k : ℕ) (stands : Flo
   pub kept_stands : (s : Seated) → s ≡ seat_at seats k → FlowStands (with_seat s) messages
   kept_stands s e = record {
     there = all_there seats (with_seat s) (grows_set seats k s less (goes_same _ _ (ap (λ (x : Seated). x.requests) e)) (goes_same _ _ (ap (λ (x : Seated). x.replies) e))) messages there;
+    all = all_kept seats k s less messages stands.all (ap (λ (x : Seated). x.requests) e) (ap (λ (x : Seated). x.replies) e);
     ruled = stay_ruled s (ap (λ (x : Seated). x.client) e);
   }
 
@@ -145,9 +147,15 @@ module _ (seats : List Seated) (messages : List Message) (k : ℕ) (stands : Flo
     said_there : IsThere (with_seat s) (Message.Said k reply_place)
     said_there = subst (λ (x : Seated). reply_place < length x.replies) (sym (here s ∙ is)) (omega (arith, length-append (seat_at seats k).replies (reply ∷ [])))
 
+    said_last : (place : ℕ) → place ≡ reply_place → Contains (Message.Said k reply_place ∷ []) (Message.Said k place)
+    said_last place last = subst (λ n. Contains (Message.Said k reply_place ∷ []) (Message.Said k n)) (sym last) (first_contained (Message.Said k reply_place) [])
+
     pub served_stands : FlowStands (with_seat s) (messages ++ Message.Said k (length (seat_at seats k).replies) ∷ [])
     served_stands = record {
       there = there_more seats (with_seat s) (grows_set seats k s less requests_on replies_on) messages there (Message.Said k reply_place) said_there;
+      all = all_set seats k s less messages stands.all (Message.Said k reply_place ∷ [])
+          (λ place within. inl (subst (λ l. place < length l) (ap (λ (x : Seated). x.requests) is) within))
+          (λ place within. ⊎_elim inl (λ last. inr (said_last place last)) (within_end (seat_at seats k).replies s.replies reply (ap (λ (x : Seated). x.replies) is) place within));
       ruled = stay_ruled s (ap (λ (x : Seated). x.client) is);
     }
 
@@ -187,8 +195,12 @@ module _ (seats : List Seated) (messages : List Message) (k : ℕ) (stands : Flo
     gone_on store = record { store = store; clients = slice_set (map (λ (x : Seated). x.client) seats) k s.client; messages = map (spoken seats) messages ++ sends k s.client.next }
 
     -- nothing more is asked
-    pub last_stands : IsRuled s.client → FlowStands (with_seat s) messages
-    last_stands ruled = record { there = all_there seats (with_seat s) grown messages there; ruled = ruled_set seats k s stands.ruled ruled }
+    pub last_stands : s.client.next ≡ None → IsRuled s.client → FlowStands (with_seat s) messages
+    last_stands none ruled = record {
+      there = all_there seats (with_seat s) grown messages there;
+      all = all_kept seats k s less messages stands.all (requests ∙ ap (λ n. (seat_at seats k).requests ++ listed n) none ∙ append-nil (seat_at seats k).requests) replies;
+      ruled = ruled_set seats k s stands.ruled ruled;
+    }
 
     pub last_is : s.client.next ≡ None → (store : Store) → world_of store (record { seats = with_seat s; messages = messages }) ≡ gone_on store
     last_is none store = λ i. record {
@@ -217,8 +229,17 @@ module _ (seats : List Seated) (messages : List Message) (k : ℕ) (stands : Flo
       asked_there = subst (λ (x : Seated). last < length x.requests) (sym (here s))
           (let e = ap length asked_now in omega (arith, e, last_place, length-append (seat_at seats k).requests (request ∷ [])))
 
+      asked_last : (place : ℕ) → place ≡ last → Contains (Message.Asked k last ∷ []) (Message.Asked k place)
+      asked_last place is = subst (λ n. Contains (Message.Asked k last ∷ []) (Message.Asked k n)) (sym is) (first_contained (Message.Asked k last) [])
+
       pub more_stands : IsRuled s.client → FlowStands (with_seat s) (messages ++ Message.Asked k (length s.requests - 1) ∷ [])
-      more_stands ruled = record { there = there_more seats (with_seat s) grown messages there (Message.Asked k last) asked_there; ruled = ruled_set seats k s stands.ruled ruled }
+      more_stands ruled = record {
+        there = there_more seats (with_seat s) grown messages there (Message.Asked k last) asked_there;
+        all = all_set seats k s less messages stands.all (Message.Asked k last ∷ [])
+            (λ place within. ⊎_elim inl (λ is. inr (asked_last place (is ∙ sym last_place))) (within_end (seat_at seats k).requests s.requests request asked_now place within))
+            (λ place within. inl (subst (λ l. place < length l) replies within));
+        ruled = ruled_set seats k s stands.ruled ruled;
+      }
 
       pub more_is : (store : Store) → world_of store (record { seats = with_seat s; messages = messages ++ Message.Asked k (length s.requests - 1) ∷ [] }) ≡ gone_on store
       more_is store = λ i. record {
@@ -292,6 +313,7 @@ module _ (seats : List Seated) (messages : List Message) (k : ℕ) (stands : Flo
     pub crashed_stands : FlowStands (with_seat s) messages
     crashed_stands = record {
       there = all_there seats (with_seat s) crash_grown messages there;
+      all = all_kept seats k s less messages stands.all (ap (λ (x : Seated). x.requests) stopped) (ap (λ (x : Seated). x.replies) stopped);
       ruled = ruled_set seats k s stands.ruled (subst IsRuled (sym (ap (λ (x : Seated). x.client) stopped)) (ruled_at seats k less stands.ruled));
     }
 
@@ -336,6 +358,7 @@ module _ (seats : List Seated) (messages : List Message) (stands : FlowStands se
   pub started_stands : FlowStands (seats ++ first_seat ∷ []) (messages ++ Message.Asked (length seats) 0 ∷ [])
   started_stands = record {
     there = there_more seats now (grows_end seats first_seat) messages stands.there (Message.Asked number 0) (subst (λ (l : List Request). 0 < length l) (sym requests_are) (lit≤ tt));
+    all = all_started seats first_seat messages stands.all (ap (λ l. length (listed l)) pending) refl;
     ruled = each_end (λ (x : Seated). IsRuled x.client) seats first_seat stands.ruled (any_obeys c [] f);
   }
 

@@ -40,6 +40,7 @@ use Rattle.repo_restore.specs.Restoring.{IsForBlob}
 use Rattle.repo_prune.specs.declared.choices.Choice.{Choice}
 use Rattle.repo_prune.specs.Pruning.{IsSettled, MayDeleteIndex, MayDeletePack}
 use Rattle.repo_prune.proofs.PruneRuns.{nothing_deleted, row_replaced}
+use Rattle.repo_prune.proofs.Staying.{lists_put_or_kept}
 use Rattle.repo_world.specs.AnyClients.{FitsAny, any_obeys, client_of}
 use Rattle.repo_world.specs.Clients.{Client, MadeOf, handed_by, task_of}
 use Rattle.repo_world.specs.Duties.{GivesAny, IndexMayGo, IsAllHanded, IsDutiful, HasGivenBack, MayPutSnapshot, NothingDeleted, Owes, PackMayGo, Tells}
@@ -170,7 +171,7 @@ prune_pack es n r =
 
 prune_owes : (es : Trace) (ask : Ask) → (rule_of Job.Prune).allows es ask → Owes Job.Prune es ask
 prune_owes es (Ask.Put token Kind.Pack n x) r = (nothing_deleted es r.none, (r.items, r.pack))
-prune_owes es (Ask.Put token Kind.Index n x) r = (nothing_deleted es r.none, r.lists)
+prune_owes es (Ask.Put token Kind.Index n x) r = (nothing_deleted es r.none, lists_put_or_kept es x r)
 prune_owes es (Ask.Put token Kind.Snapshot n x) r = absurd r
 prune_owes es (Ask.Delete token Kind.Index n) r = prune_index es n r
 prune_owes es (Ask.Delete token Kind.Pack n) r = prune_pack es n r

@@ -14,6 +14,7 @@ use Rattle.repo_backup.specs.PieceRules.{IsMadeSoFar, AreOver}
 use Rattle.repo_backup.specs.Rules.{IsMade}
 use Rattle.repo_backup.specs.Standings.{Standing, LeadTo, made_at}
 use Rattle.repo_backup.proofs.FedOn.{fed_exchanged}
+use Rattle.repo_backup.proofs.BackupRuling.{among_blobs}
 use Rattle.repo_backup.proofs.Leading.{made_later, over_last}
 use Rattle.repo_backup.proofs.PieceRuling.{ended_by}
 use Rattle.repo_world.proofs.Sending.{Within, FedSince}
@@ -29,7 +30,7 @@ made_on es fs within since taken item (config, st, at, among) =
       config,
       m.0,
       record { has = config_on es fs config within at.has; lead = subst (λ (l : Feeding). LeadTo config.params l m.0) (sym since.1) m.1 },
-      m.2 item among,
+      among_blobs (made_at config.version st) m.2 (made_at config.version m.0) m.3 item among,
     )
 
 -- where nothing was fed between

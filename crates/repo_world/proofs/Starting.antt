@@ -28,7 +28,7 @@ unlisted : false ≡ true → ⊥
 unlisted e = absurd (cc)
 
 restore_ends : (snapshot : Name) (end : End) → (rule_of (Job.Restore snapshot)).concludes [] (Outcome.Ended end) → ⊥
-restore_ends snapshot (End.Missing thing name) h = h.found.2.0
+restore_ends snapshot (End.Missing thing name) h = h.0.found.2.0
 restore_ends snapshot (End.BadObject Thing.Tree tree) h = h.found.2.0
 restore_ends snapshot (End.BadObject Thing.Pack tree) h = h
 restore_ends snapshot (End.BadObject Thing.Index tree) h = h

@@ -1,5 +1,5 @@
 -- All clients with all messages between them and the store.
-use Rattle.std.specs.Prelude.{◌<◌, ℕ, List, length, map, slice_index_or}
+use Rattle.std.specs.Prelude.{◌<◌, ℕ, List, length, map, slice_index_or, Contains}
 use Rattle.repo_store.specs.Stores.{Store}
 use Rattle.repo_session.specs.Traces.{Each}
 use Rattle.repo_world.specs.Clients.{Client}
@@ -32,9 +32,10 @@ IsThere seats (Message.Said k reply) = reply < length (seat_at seats k).replies
 abbrev pub EachIsThere : List Seated → List Message → Type 0
 EachIsThere seats messages = Each (IsThere seats) messages
 
--- so it is, and each client goes by its job's whole rule
+-- so it is, and for each request, and each reply, that is there one stands; and each client goes by its job's whole rule
 pub record FlowStands (seats : List Seated) (messages : List Message) : Type 0 where
   pub there : EachIsThere seats messages
+  pub all : (message : Message) → IsThere seats message → Contains messages message
   pub ruled : Each (λ seat. IsRuled seat.client) seats
 
 -- the clients

@@ -1,6 +1,6 @@
 //! All clients with all messages between them and the store.
 
-ghost use Rattle.std.specs.Prelude.{◌≡◌, ◌<◌, [], ℕ, IfOk, IsOk, OnErr, IfSome, length, option_map, slice_get, string_bytes, true, map, Some};
+ghost use Rattle.std.specs.Prelude.{◌≡◌, ◌<◌, ◌↔◌, [], ℕ, IfOk, IsOk, IsSome, OnErr, IfSome, Contains, length, option_map, slice_get, string_bytes, true, map, Some};
 ghost use Rattle.repo_name.specs.Rows.{IsHost};
 ghost use Rattle.repo_wire.specs.Messages.{requests as request_sort};
 ghost use Rattle.repo_wire.specs.Stream.{FitsFrame};
@@ -11,13 +11,14 @@ ghost use Rattle.repo_session.specs.Traces.{Each};
 ghost use Rattle.repo_backup.specs.Items.{IsCountOf};
 ghost use Rattle.repo_world.specs.Clients.{MayBeFed};
 ghost use Rattle.repo_world.specs.Events.{BeginsJob, Gives, Stops};
-ghost use Rattle.repo_world.specs.Flows.{clients_in, messages_in, seat_at, world_of};
+ghost use Rattle.repo_world.specs.Flows.{FlowStands, clients_in, messages_in, seat_at, world_of};
 ghost use Rattle.repo_world.specs.Reports.{client_lines};
 ghost use Rattle.repo_world.specs.Rules.{IsRuled};
 ghost use Rattle.repo_world.specs.inner.Seating.{StepsAsArmed};
 ghost use Rattle.repo_world.specs.World.{instance_of, client, versions_of};
 ghost use Rattle.repo_world.specs.Calmness.{IsIgnored};
 ghost use Rattle.repo_world.specs.declared.events.Applied.{Applied};
+ghost use Rattle.repo_world.specs.declared.messages.Message.{Message};
 ghost use Rattle.repo_world.specs.inner.Flowing.{FlowServes, ReplyArrives, FlowDelivers, TellsTaken};
 
 use crate::any_clients::{AnyClient, NotBegun};
@@ -103,11 +104,28 @@ impl Traffic {
         self.messages.as_slice()
     }
 
-    /// The seat of a client.
+    /// The seat of a client. All messages together stand for just what the seats have.
     pub fn seat(&self, client: usize) -> Option<&Seat>
-        ensures { option_map (λ seat. seat.now) result ≡ slice_get self.now.seats client }
+        ensures seat { option_map (λ seat. seat.now) result ≡ slice_get self.now.seats client }
+        ensures stands { FlowStands self.now.seats self.now.messages }
     {
         self.seats.as_slice().get(client)
+    }
+
+    /// The request of a client at a place, counted from 0. It is there just where a message stands for it.
+    pub fn request(&self, client: usize, place: usize) -> Option<&Request>
+        ensures request { option_map (λ request. request.now) result ≡ slice_get (seat_at self.now.seats client).requests place }
+        ensures named { IsSome result ↔ Contains self.now.messages (Message.Asked client place) }
+    {
+        self.seat(client)?.request(place)
+    }
+
+    /// The reply to a client at a place, counted from 0. It is there just where a message stands for it.
+    pub fn reply(&self, client: usize, place: usize) -> Option<&Reply>
+        ensures reply { option_map (λ reply. reply.now) result ≡ slice_get (seat_at self.now.seats client).replies place }
+        ensures named { IsSome result ↔ Contains self.now.messages (Message.Said client place) }
+    {
+        self.seat(client)?.reply(place)
     }
 
     /// How many clients started. Each goes by its job's whole rule.

@@ -1,6 +1,6 @@
 //! The world in code: a store in a device, its clients, and all messages.
 
-ghost use Rattle.std.specs.Prelude.{◌≡◌, ◌≢◌, ◌<◌, ◌↔◌, [], ℕ, List, IfOk, IfErr, IsErrOf, IsOk, IsTrue, OnErr, OnOk, None, length, option_map, slice_get, string_bytes, take, Some, ⊤};
+ghost use Rattle.std.specs.Prelude.{◌≡◌, ◌≢◌, ◌<◌, ◌↔◌, [], ℕ, List, IfOk, IfErr, IsErrOf, IsOk, IsSome, IsTrue, Contains, OnErr, OnOk, None, length, option_map, slice_get, string_bytes, take, Some, ⊤};
 ghost use Rattle.repo_tree.specs.ConfigText.{config_text, IsTarget};
 ghost use Rattle.repo_tree.specs.Versions.{greatest_version, IsKnownTo};
 ghost use Rattle.repo_wire.specs.declared.messages.Code.{Code};
@@ -20,6 +20,7 @@ ghost use Rattle.repo_world.specs.World as world;
 ghost use Rattle.repo_world.specs.World.{awaited, given_out};
 ghost use Rattle.repo_world.specs.declared.events.Applied.{Applied};
 ghost use Rattle.repo_world.specs.declared.events.Event.{Event};
+ghost use Rattle.repo_world.specs.declared.messages.Message.{Message};
 
 use crate::copies::copy_of_event;
 use crate::events::{Applied, Event};
@@ -324,18 +325,20 @@ impl<S: Shelf + Drop> World<S> {
         self.flow.messages()
     }
 
-    /// The request of a client at a place, counted from 0.
+    /// The request of a client at a place, counted from 0: it is there just where one of [`World::messages`] stands for it.
     pub fn request(&self, client: usize, place: usize) -> Option<&Request>
-        ensures { option_map (λ request. request.now) result ≡ slice_get (seat_at self.now.flow.seats client).requests place }
+        ensures request { option_map (λ request. request.now) result ≡ slice_get (seat_at self.now.flow.seats client).requests place }
+        ensures named { IsSome result ↔ Contains self.now.flow.messages (Message.Asked client place) }
     {
-        self.flow.seat(client)?.request(place)
+        self.flow.request(client, place)
     }
 
-    /// The reply to a client at a place, counted from 0.
+    /// The reply to a client at a place, counted from 0: it is there just where one of [`World::messages`] stands for it.
     pub fn reply(&self, client: usize, place: usize) -> Option<&Reply>
-        ensures { option_map (λ reply. reply.now) result ≡ slice_get (seat_at self.now.flow.seats client).replies place }
+        ensures reply { option_map (λ reply. reply.now) result ≡ slice_get (seat_at self.now.flow.seats client).replies place }
+        ensures named { IsSome result ↔ Contains self.now.flow.messages (Message.Said client place) }
     {
-        self.flow.seat(client)?.reply(place)
+        self.flow.reply(client, place)
     }
 
     /// The request that a client waits for, until it stopped for good.

@@ -4,5 +4,6 @@ pub mod PutLemmas
 pub mod Filling
 pub mod Listings
 pub mod Writings
+pub mod Unlisted
 pub mod Keeping
 pub mod Replacing

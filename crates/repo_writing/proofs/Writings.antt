@@ -24,7 +24,7 @@ use Rattle.repo_index.proofs.ExactLemmas.{fact_there}
 use Rattle.repo_session.specs.Traces.{Each, Exchange, Trace, Object, object_put, objects_put}
 use Rattle.repo_session.proofs.Receiving.{each_both, each_more}
 use Rattle.repo_writing.specs.Blobs.{HasItem}
-use Rattle.repo_writing.specs.Putting.{PutDone, AreDone, IsPacked, IsIndexed, IsListedPack, Packed, IsCount, AreCounted}
+use Rattle.repo_writing.specs.Putting.{PutDone, AreDone, IsPacked, IsIndexed, IsListedPack, Packed, ArePutBlobs, IsCount, AreCounted}
 use Rattle.repo_writing.specs.Sealing.{IsSealedOf, IsListedAs}
 use Rattle.repo_writing.specs.Writing.{Put, IsPut, items_of, bytes_of, AreCounts, ArePut, Listing, packs_of, IsDone, AreListed, FewWait}
 use Rattle.repo_writing.specs.declared.counts.Counts.{Counts}
@@ -156,6 +156,10 @@ module _ (counts : Counts) (puts : List Put) (es : Trace) (h : ArePut counts put
         holds = is.holds;
         exact = subst (λ n. AreFactsAt n p.items p.listed.facts) (sym is.same) is.exact;
       })
+
+  -- these are the blobs that were put
+  pub put_blobs : ArePutBlobs es (items_of puts)
+  put_blobs = record { packs = map packed_of puts; are = objects_of puts ∙ h.packs; each = each_packed puts (each_alone puts h.each); blobs_are = sym (blobs_in puts) }
 
   -- what was put is counted
   pub counted : AreCounted es counts.blobs counts.bytes

@@ -7,7 +7,7 @@ use Rattle.repo_play.proofs.later.last_reply.Goals as goal
 pub returns-in-Some-Said : goal.returns-in-Some-Said
 returns-in-Some-Said g c = λ messages k reply e.
     let here = ap (λ m. slice_get m (length m - 1)) (sym c.messages.ensures) ∙ sym c.last.ensures.value ∙ ap option_copied c.in-Some-Said.is ∙ ap Some c.in-Some-Said.field-0-is in
-    reply_found c.args.world.now.flow messages k reply c.in-Some-Said.client c.in-Some-Said.reply c.reply.result e here c.reply.ensures
+    reply_found c.args.world.now.flow messages k reply c.in-Some-Said.client c.in-Some-Said.reply c.reply.result e here c.reply.ensures.reply
 
 pub returns-in-Some-Asked : goal.returns-in-Some-Asked
 returns-in-Some-Asked g c = λ messages k reply e.

@@ -1,12 +1,12 @@
 use Rattle.std.proofs.Common.{◌≡◌, ◌∷◌, [], ℕ, List, false, is_some, refl, sym, ap, subst, inl, ◌∙◌, append-nil}
 use Rattle.repo_backup.specs.Folders.{nothing}
-use Rattle.repo_backup.specs.Pieces.{IsAt}
+use Rattle.repo_backup.specs.Pieces.{IsAt, waiting_in}
 use Rattle.repo_backup.specs.Standings.{IsCutSoFar, made_at}
 use Rattle.repo_backup.specs.declared.piece_works.PieceWork.{PieceWork}
 use Rattle.repo_backup.proofs.Leading.{next_dir}
 use Rattle.repo_backup.proofs.PackingLemmas.{on_any}
 use Rattle.repo_backup.proofs.PieceTaking.{memory_told}
-use Rattle.repo_backup.proofs.Piecing.{none_waits, stands_on}
+use Rattle.repo_backup.proofs.Piecing.{stands_on}
 use Rattle.repo_session.specs.Feeds.{fed_dir}
 use Rattle.repo_backup.proofs.piece_works.PieceWork.feed_dir.Goals as goal
 
@@ -24,7 +24,7 @@ returns-clause-ok c = λ known. (
         n.now,
         [],
         n.place,
-        inl (c.requires.unlaid, stands_on w v known st n.now sent [] refl c.begin_dir.ensures.version (n.made ∙ append-nil (made_at w.walk.version st)) at (subst (λ q. IsCutSoFar q n.now) (sym c.begin_dir.ensures.params) n.cut) (tt, (h.texts.0, h.texts.1)) (λ x among. absurd (none_waits w.walk.file x c.in_ok-name.ensures.unopened among)) h),
+        inl (c.requires.unlaid, stands_on w v known st n.now sent [] refl c.begin_dir.ensures.version (n.made ∙ append-nil (made_at w.walk.version st)) at (subst (λ q. IsCutSoFar q n.now) (sym c.begin_dir.ensures.params) n.cut) (tt, (h.texts.0, h.texts.1)) (ap waiting_in (c.begin_dir.ensures.file ∙ sym c.in_ok-name.ensures.unopened)) h),
         inl (inl refl),
       ),
 )
@@ -36,4 +36,4 @@ pub returns-in_err-begin_dir-clause-stays : goal.returns-in_err-begin_dir-clause
 returns-in_err-begin_dir-clause-stays c = on_any _ c.from_residual-in_err-begin_dir.result (λ known st sent h.
     let w = c.args.self.now in
     let v : PieceWork = record w { walk = c.begin_dir.new.self } in
-    stands_on w v known st st sent [] refl c.begin_dir.ensures.version refl (c.in_err-begin_dir.ensures.err st h.at) (subst (λ q. IsCutSoFar q st) (sym c.begin_dir.ensures.params) h.cut) h.texts (λ x among. absurd (none_waits w.walk.file x c.in_ok-name.ensures.unopened among)) h)
+    stands_on w v known st st sent [] refl c.begin_dir.ensures.version refl (c.in_err-begin_dir.ensures.err st h.at) (subst (λ q. IsCutSoFar q st) (sym c.begin_dir.ensures.params) h.cut) h.texts (ap waiting_in (c.begin_dir.ensures.file ∙ sym c.in_ok-name.ensures.unopened)) h)

@@ -1,10 +1,10 @@
 use Rattle.std.proofs.Common.{◌≡◌, [], ℕ, List, false, Some, None, is_some, refl, sym, ap, subst, inl, ◌∙◌, append-nil}
-use Rattle.repo_backup.specs.Pieces.{IsAt}
+use Rattle.repo_backup.specs.Pieces.{IsAt, waiting_in}
 use Rattle.repo_backup.specs.Standings.{IsCutSoFar, made_at}
 use Rattle.repo_backup.specs.declared.piece_works.PieceWork.{PieceWork}
 use Rattle.repo_backup.proofs.Leading.{next_file}
 use Rattle.repo_backup.proofs.Lengthening.{no_file}
-use Rattle.repo_backup.proofs.Piecing.{none_waits, room_open, room_waiting, stands_on}
+use Rattle.repo_backup.proofs.Piecing.{room_open, room_waiting, stands_on}
 use Rattle.repo_backup.proofs.piece_works.PieceWork.feed_file.Goals as goal
 
 pub returns-clause-ok : goal.returns-clause-ok
@@ -23,7 +23,7 @@ returns-clause-ok c = λ known. (
         n.now,
         [],
         n.place,
-        inl (c.requires.unlaid, stands_on w v known st n.now sent [] refl c.begin_file.ensures.version (n.made ∙ append-nil (made_at w.walk.version st)) at (subst (λ q. IsCutSoFar q n.now) (sym c.begin_file.ensures.params) n.cut) h.texts (λ x among. absurd (none_waits w.walk.file x c.in_ok-name.ensures.unopened among)) h),
+        inl (c.requires.unlaid, stands_on w v known st n.now sent [] refl c.begin_file.ensures.version (n.made ∙ append-nil (made_at w.walk.version st)) at (subst (λ q. IsCutSoFar q n.now) (sym c.begin_file.ensures.params) n.cut) h.texts (c.begin_file.ensures.waiting ∙ ap waiting_in (sym c.in_ok-name.ensures.unopened)) h),
         inl (inl refl),
       ),
 )

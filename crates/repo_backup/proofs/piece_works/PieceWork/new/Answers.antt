@@ -1,4 +1,4 @@
-use Rattle.std.proofs.Common.{List, refl, subst, Contains}
+use Rattle.std.proofs.Common.{[], List, refl, subst, Contains}
 use Rattle.repo_name.proofs.Containing.{none_contained}
 use Rattle.repo_pack.specs.PackLayout.{Item}
 use Rattle.repo_backup.proofs.piece_works.PieceWork.new.Goals as goal
@@ -10,5 +10,6 @@ returns-clause-stands c = λ known. record {
   at = record { outers = c.new.ensures.items; nodes = c.new-2.ensures.items; file = tt; over = refl; root = tt };
   cut = record { done = tt; above = tt; file = tt };
   texts = (tt, tt);
+  order = ([], refl, c.new-packing.ensures.writer);
   covered = tt;
 }

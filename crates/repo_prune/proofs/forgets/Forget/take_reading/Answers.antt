@@ -1,5 +1,6 @@
 use Rattle.std.proofs.Common.{◌∷◌, [], refl, subst, inl}
-use Rattle.repo_session.specs.Ends.{IsOfOtherVersion}
+use Rattle.repo_name.specs.declared.kinds.Thing.{Thing}
+use Rattle.repo_session.specs.Ends.{IsBad, IsOfOtherVersion, IsSenseless}
 use Rattle.repo_session.specs.Traces.{Exchange, silent}
 use Rattle.repo_session.specs.Versions.{upto}
 use Rattle.repo_prune.specs.declared.forgets.Forget.{Forget}
@@ -30,8 +31,10 @@ returns-in-Ok-clause-steps c = λ policy es w obeys asked.
 
 pub returns-in-Bad-clause-steps : goal.returns-in-Bad-clause-steps
 returns-in-Bad-clause-steps c = λ policy es w obeys asked.
+    let e : Exchange = silent c.args.ask.now c.args.say.now in
     let lists = rw c.in-Bad.is at c.in_ok-next.ensures.ok in
-    (inl refl, inl (inl (lists (forget_task c.args.holder.now.who) c.args.holder.now.token [] es w asked.may asked.knows.1)))
+    let bad = lists (forget_task c.args.holder.now.who) c.args.holder.now.token [] es w asked.may asked.knows.1 in
+    (inl refl, inl (inl (subst (λ versions. IsBad (upto versions) (e ∷ es) e.ask e.say Thing.Snapshot c.in-Bad.name) c.versions.ensures bad)))
 
 pub returns-in-Version-clause-steps : goal.returns-in-Version-clause-steps
 returns-in-Version-clause-steps c = λ policy es w obeys asked.
@@ -42,7 +45,8 @@ returns-in-Version-clause-steps c = λ policy es w obeys asked.
 pub returns-in-Senseless-clause-steps : goal.returns-in-Senseless-clause-steps
 returns-in-Senseless-clause-steps c = λ policy es w obeys asked.
     let lists = rw c.in-Senseless.is at c.in_ok-next.ensures.ok in
-    (inl refl, inl (inl (lists (forget_task c.args.holder.now.who) c.args.holder.now.token [] es w asked.may asked.knows.1)))
+    let senseless = lists (forget_task c.args.holder.now.who) c.args.holder.now.token [] es w asked.may asked.knows.1 in
+    (inl refl, inl (inl (subst (λ versions. IsSenseless (upto versions) c.args.ask.now c.args.say.now) c.versions.ensures senseless)))
 
 pub returns-in-Unwelcome-clause-steps : goal.returns-in-Unwelcome-clause-steps
 returns-in-Unwelcome-clause-steps c = λ policy es w obeys asked.

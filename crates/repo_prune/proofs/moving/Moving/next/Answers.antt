@@ -36,4 +36,4 @@ returns-in-Some-clause-on c = λ sent sealed moving.
     let room = c.if-is_due.ensures.open refl in
     let alone = unsealed m sent sealed room.0 moving in
     let there = rw c.as_slice.ensures.value at c.in-Some.ensures in
-    (record { moving = record { sealed_is = alone.sealed_is; moved = alone.moved; within = alone.within; counted = alone.counted; aim = alone.aim; due = alone.due; alone = alone.alone; prompt = alone.prompt; full = alone.full }; before = sent_before m sent [] alone; asked = sym there; next = inl (refl, room.1, room.0) }, refl)
+    (record { moving = record { sealed_is = alone.sealed_is; moved = alone.moved; within = alone.within; counted = alone.counted; aim = alone.aim; due = alone.due; alone = alone.alone; prompt = alone.prompt; full = alone.full }; before = sent_before m sent [] alone; asked = sym there; next = inl (refl, room.1, room.0) }, refl, refl, room.1)

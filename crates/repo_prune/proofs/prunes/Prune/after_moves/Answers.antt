@@ -9,7 +9,7 @@ returns-in-Some-clause-on c = λ who es w h.
     let r = c.in_ok-relisting.relisting in
     let is = c.in_ok-relisting.ensures in
     let same = rw c.as_slice-packs.ensures.value at is.packs in
-    let may = may_list k c.args.moving.now r es h same is.counts is.listed is.indexes in
+    let may = may_list k c.args.moving.now r es h same is.ascend is.counts is.listed is.indexes in
     index_asked k r c.next.new.self es may who c.args.token c.in-Some.step w (rw c.in-Some.is at c.in_ok-step.ensures.on)
 
 pub returns-in-None-clause-on : goal.returns-in-None-clause-on
@@ -18,5 +18,5 @@ returns-in-None-clause-on c = IfOk-weaker c.after_indexes.result _ _ (λ onward 
     let r = c.in_ok-relisting.relisting in
     let is = c.in_ok-relisting.ensures in
     let same = rw c.as_slice-packs.ensures.value at is.packs in
-    let may = may_list k c.args.moving.now r es h same is.counts is.listed is.indexes in
+    let may = may_list k c.args.moving.now r es h same is.ascend is.counts is.listed is.indexes in
     comes who es w (index_none k r c.next.new.self es may c.args.token (rw c.in-None.is at c.in_ok-step.ensures.on))) c.after_indexes.ensures.on

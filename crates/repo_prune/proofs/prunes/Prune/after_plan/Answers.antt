@@ -1,10 +1,10 @@
-use Rattle.std.proofs.Common.{[], Vec, Global, ap}
+use Rattle.std.proofs.Common.{[], Vec, Global, ap, ◌∙◌}
 use Rattle.std.proofs.lemmas.Result.{IfOk-weaker}
 use Rattle.repo_index.specs.declared.facts.Fact.{Fact}
 use Rattle.repo_index.specs.declared.facts.PackFacts.{PackFacts}
 use Rattle.repo_writing.specs.declared.targets.Target.{Target}
 use Rattle.repo_prune.specs.PruneStates.{known_in}
-use Rattle.repo_prune.proofs.PruneMoves.{begins_moving, all_moved, goes_on}
+use Rattle.repo_prune.proofs.PruneMoves.{begins_moving, none_received, all_moved, goes_on}
 use Rattle.repo_prune.proofs.prunes.Prune.after_plan.Goals as goal
 
 pub returns-in-Done-clause-on : goal.returns-in-Done-clause-on
@@ -23,6 +23,7 @@ returns-in_default c = record {
       let m = c.new-moving.result in
       let is = c.new-moving.ensures in
       let begun = begins_moving k m c.args.plan.kept.items c.args.plan.moves.items es h is.moving (ap (λ (v : Vec PackFacts Global). v.items) is.listed) (ap (λ (v : Vec Fact Global). v.items) is.moves) (ap (λ (t : Target). t.bytes) is.target) in
-      goes_on k m c.next.new.self [] es begun c.next.ensures.moves c.next.ensures.target who c.args.token w c.in_ok-moved.moved c.move_on-step.result c.in_default.not-Done (c.in_ok-moved.ensures.on [] [] is.moving) c.move_on-step.ensures.on;
+      let got = none_received c.next.new.self es h.parts (c.next.ensures.added ∙ is.added) in
+      goes_on k m c.next.new.self [] es begun c.next.ensures.moves c.next.ensures.target who c.args.token w got c.in_ok-moved.moved c.move_on-step.result c.in_default.not-Done (c.in_ok-moved.ensures.on [] [] is.moving) c.move_on-step.ensures.on;
   short = c.move_on-step.ensures.short;
 }

@@ -10,7 +10,7 @@ use Rattle.repo_prune.specs.declared.prunes.Prune.{Prune}
 use Rattle.repo_prune.specs.declared.prunes.Stage.{Stage}
 use Rattle.repo_prune.proofs.TreeReading.{on_any}
 use Rattle.repo_prune.proofs.PruneListing.{may_step}
-use Rattle.repo_prune.proofs.PruneMoves.{repacks_as, repacks_put, all_moved, goes_on}
+use Rattle.repo_prune.proofs.PruneMoves.{repacks_as, repacks_put, received_as, received_on, all_moved, goes_on}
 use Rattle.repo_prune.proofs.prunes.Prune.pack_done.Goals as goal
 
 pub returns-in-Done-clause-steps : goal.returns-in-Done-clause-steps
@@ -41,6 +41,7 @@ returns-in_err-moved-clause-knows c = on_any c.from_residual.result (λ own name
       repacking = repacks_as k c.in-Moving.moving c.next.new.self known.puts (known.put ∷ []) es c.next.ensures.moves c.next.ensures.target stays.listed stays.moving.counted known.repacking;
       pack_is = known.pack_is;
       moving = stays.moving;
+      received = received_as c.in-Moving.moving c.next.new.self c.in-Moving.moving.added c.next.new.self.added es c.next.ensures.moves c.next.ensures.added known.received;
     })
 
 pub returns-in-Done-clause-knows : goal.returns-in-Done-clause-knows
@@ -58,6 +59,7 @@ returns-in-Done-clause-knows c = on_err_weaker c.finish_moves.result
       repacking = repacks_as k c.in-Moving.moving c.next.new.self known.puts (known.put ∷ []) es c.next.ensures.moves c.next.ensures.target done.3 done.0.counted known.repacking;
       pack_is = known.pack_is;
       moving = done.0;
+      received = received_as c.in-Moving.moving c.next.new.self c.in-Moving.moving.added c.next.new.self.added es c.next.ensures.moves c.next.ensures.added known.received;
     }))
     c.finish_moves.ensures.err
 
@@ -74,7 +76,8 @@ returns-in_default-2 c = record {
       let repacking = repacks_put k m known.puts known.put own e es ask refl known.repacking in
       let on = c.in_ok-moved.ensures.on (items_of puts) known.sealed known.moving in
       let new : Prune = record { snapshots = old.snapshots; catalog = old.catalog; packs = old.packs; stage = Stage.Moving c.next.new.self; target = old.target; alloc = old.alloc } in
-      may_step new who e es c.move_on.result refl (goes_on k m c.next.new.self puts (e ∷ es) repacking c.next.ensures.moves c.next.ensures.target who c.args.token w c.in_ok-moved.moved c.move_on.result c.in_default-2.not-Done on c.move_on.ensures.on);
+      let got = received_on m c.next.new.self m.added c.next.new.self.added e es c.next.ensures.moves c.next.ensures.added refl known.received in
+      may_step new who e es c.move_on.result refl (goes_on k m c.next.new.self puts (e ∷ es) repacking c.next.ensures.moves c.next.ensures.target who c.args.token w got c.in_ok-moved.moved c.move_on.result c.in_default-2.not-Done on c.move_on.ensures.on);
   short = c.move_on.ensures.short;
   knows = tt;
 }

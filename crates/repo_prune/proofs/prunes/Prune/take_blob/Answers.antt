@@ -8,7 +8,7 @@ use Rattle.repo_prune.specs.declared.prunes.Prune.{Prune}
 use Rattle.repo_prune.specs.declared.prunes.Stage.{Stage}
 use Rattle.repo_prune.proofs.TreeReading.{on_any}
 use Rattle.repo_prune.proofs.PruneListing.{may_step}
-use Rattle.repo_prune.proofs.PruneMoves.{counted_alone, repacks_as, repacks_range, goes_on, blob_known, not_done, blob_length, bad_range}
+use Rattle.repo_prune.proofs.PruneMoves.{counted_alone, repacks_as, repacks_range, received_as, received_more, goes_on, blob_known, not_done, blob_length, bad_range}
 use Rattle.repo_prune.proofs.prunes.Prune.take_blob.Goals as goal
 
 pub returns-in_err-take_blob-in-Blob-clause-knows : goal.returns-in_err-take_blob-in-Blob-clause-knows
@@ -27,6 +27,7 @@ returns-in_err-take_blob-in-Blob-clause-knows c = on_any c.from_residual.result 
       repacking = repacks_as k m c.take_blob.new.self known.puts [] es still.moves c.take_blob.ensures.target still.listed (counted_alone c.take_blob.new.self.counts known.puts still.awaits.moving.counted) known.repacking;
       awaits = still.awaits;
       asks = known.asks;
+      received = received_as m c.take_blob.new.self m.asked c.take_blob.new.self.asked es still.moves still.asked known.received;
     })
 
 pub returns-in_ok-take_blob-in-Blob-clause-steps : goal.returns-in_ok-take_blob-in-Blob-clause-steps
@@ -45,7 +46,9 @@ returns-in_ok-take_blob-in-Blob-clause-steps c = λ moving pack offset len is wh
     let other = not_done m n fact (items_of known.puts) known.sealed m.listed.items moved known.awaits c.take_blob.ensures.moves on in
     let repacking = repacks_range k m known.puts e es pack offset len refl known.repacking in
     let new : Prune = record { snapshots = old.snapshots; catalog = old.catalog; packs = old.packs; stage = Stage.Moving n; target = old.target; alloc = old.alloc } in
-    may_step new who e es c.move_on.result refl (goes_on k m n known.puts (e ∷ es) repacking c.take_blob.ensures.moves c.take_blob.ensures.target who c.args.token w moved c.move_on.result other on c.move_on.ensures.on)
+    let more = c.in_ok-take_blob-in-Blob.ensures.added (items_of known.puts) known.sealed known.awaits long in
+    let got = received_more m n e es fact c.in-Blob.bytes.now c.take_blob.ensures.moves more known.awaits.asked known.read known.asks c.in-Blob.ensures.0 c.in-Blob.ensures.1 known.received in
+    may_step new who e es c.move_on.result refl (goes_on k m n known.puts (e ∷ es) repacking c.take_blob.ensures.moves c.take_blob.ensures.target who c.args.token w got moved c.move_on.result other on c.move_on.ensures.on)
 
 pub returns-in-Misnamed-clause-steps : goal.returns-in-Misnamed-clause-steps
 returns-in-Misnamed-clause-steps c = λ moving pack offset len is who es w obeys asked.

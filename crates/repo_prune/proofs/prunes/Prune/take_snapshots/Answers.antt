@@ -1,6 +1,7 @@
 use Rattle.std.proofs.Common.{◌∷◌, [], refl, sym, subst, inl}
 use Rattle.repo_name.specs.declared.kinds.Kind.{Kind}
-use Rattle.repo_session.specs.Ends.{IsOfOtherVersion}
+use Rattle.repo_name.specs.declared.kinds.Thing.{Thing}
+use Rattle.repo_session.specs.Ends.{IsBad, IsOfOtherVersion, IsSenseless}
 use Rattle.repo_session.specs.Traces.{Exchange, silent}
 use Rattle.repo_session.proofs.KindReads.{due_index, due_snapshot}
 use Rattle.repo_session.specs.Versions.{upto}
@@ -85,7 +86,9 @@ pub returns-in-Bad-clause-steps : goal.returns-in-Bad-clause-steps
 returns-in-Bad-clause-steps c = λ token is who knows es w obeys asked.
     let h = snapshots_known c.args.self.now c.args.ask.now es is asked.knows in
     let lists = rw c.in-Bad.is at c.in_ok-next.ensures.ok in
-    rw c.end.ensures.end (inl refl, inl (inl (lists (prune_task who) token [] es w asked.may h.snapshots)))
+    let e : Exchange = silent c.args.ask.now c.args.say.now in
+    let bad = subst (λ versions. IsBad (upto versions) (e ∷ es) e.ask e.say Thing.Snapshot c.in-Bad.name) (sym knows) (lists (prune_task who) token [] es w asked.may h.snapshots) in
+    rw c.end.ensures.end (inl refl, inl (inl bad))
 
 pub returns-in-Version-clause-steps : goal.returns-in-Version-clause-steps
 returns-in-Version-clause-steps c = λ token is who knows es w obeys asked.
@@ -98,7 +101,8 @@ pub returns-in-Senseless-clause-steps : goal.returns-in-Senseless-clause-steps
 returns-in-Senseless-clause-steps c = λ token is who knows es w obeys asked.
     let h = snapshots_known c.args.self.now c.args.ask.now es is asked.knows in
     let lists = rw c.in-Senseless.is at c.in_ok-next.ensures.ok in
-    rw c.end-in-Senseless.ensures.end (inl refl, inl (inl (lists (prune_task who) token [] es w asked.may h.snapshots)))
+    let senseless = subst (λ versions. IsSenseless (upto versions) c.args.ask.now c.args.say.now) (sym knows) (lists (prune_task who) token [] es w asked.may h.snapshots) in
+    rw c.end-in-Senseless.ensures.end (inl refl, inl (inl senseless))
 
 pub returns-in-Unwelcome-clause-steps : goal.returns-in-Unwelcome-clause-steps
 returns-in-Unwelcome-clause-steps c = λ token is who knows es w obeys asked.

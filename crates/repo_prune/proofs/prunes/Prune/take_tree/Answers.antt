@@ -61,7 +61,7 @@ returns-in-Done-clause-knows c = on_err_weaker c.finish_trees.result (λ again t
     let taken = c.in_ok-next.ensures.taken c.in-Done.is in
     let now : KnowsWalking k a.now f ask es = record {
       texts = known.texts;
-      over = record { read = known.over.read; untouched = known.over.untouched; roots = ap (λ (v : Vec Root Global). v.items) (a.roots ∙ c.take_tree.ensures.roots) ∙ known.over.roots; received = known.over.received };
+      over = record { read = known.over.read; untouched = known.over.untouched; roots = ap (λ (v : Vec Root Global). v.items) (a.roots ∙ c.take_tree.ensures.roots) ∙ known.over.roots; received = known.over.received; all = known.over.all; apart = known.over.apart; parts = known.over.parts };
       awaits = a.still k.facts known.texts t taken known.awaits;
       asks = known.asks;
     } in

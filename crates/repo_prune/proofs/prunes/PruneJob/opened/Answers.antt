@@ -10,10 +10,10 @@ use Rattle.repo_session.proofs.KindReads.{due_snapshot}
 use Rattle.repo_session.proofs.Listing.{opened_snapshots}
 use Rattle.repo_session.proofs.Rolling.{opened_rolled}
 use Rattle.repo_writing.proofs.Filling.{most_known}
-use Rattle.repo_prune.specs.Pruning.{IsUntouched, prune_rule}
-use Rattle.repo_prune.specs.PruneStates.{IsListingOf}
+use Rattle.repo_prune.specs.Pruning.{prune_rule}
+use Rattle.repo_prune.specs.PruneStates.{HasOnlyListed, IsListingOf}
 use Rattle.repo_prune.specs.declared.prunes.Prune.{Prune}
-use Rattle.repo_prune.proofs.PruneListing.{snapshots_back, roll_listing, snapshots_allowed}
+use Rattle.repo_prune.proofs.PruneListing.{snapshots_back, roll_listing, snapshots_allowed, opened_unranged}
 use Rattle.repo_prune.proofs.prunes.PruneJob.opened.Goals as goal
 
 pub returns-clause-begins : goal.returns-clause-begins
@@ -25,7 +25,7 @@ returns-clause-begins c = λ text fresh reads known.
     let es = opened task holding.token text in
     let working = opened_working task holding.token text config reads known in
     let due = c.page_ask.ensures.due task holding.token es working fresh.snapshots.none_read (opened_snapshots old.snapshots task holding.token text fresh.snapshots) in
-    let untouched : IsUntouched es = record { none_put = λ k. refl; none_deleted = none_deleted_at_first task holding.token text } in
+    let untouched : HasOnlyListed es = record { none_put = λ k. refl; none_deleted = none_deleted_at_first task holding.token text; none_ranged = opened_unranged task holding.token text } in
     let next = c.page_ask.result in
     let listing : IsListingOf Kind.Snapshot next = subst (λ k. IsListingOf k next) due.knows.of_kind (roll_listing old.snapshots.roll next es due.knows.rolls) in
     let new : Prune = record { snapshots = old.snapshots; catalog = old.catalog; packs = old.packs; stage = old.stage; target = c.target_of-self.result; alloc = old.alloc } in

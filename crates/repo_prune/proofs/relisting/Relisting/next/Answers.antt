@@ -4,8 +4,9 @@ use Rattle.repo_name.specs.Limits.{facts_limit}
 use Rattle.repo_index.specs.IndexText.{IsIndexText, facts_in}
 use Rattle.repo_index.specs.IndexWriting.{AreLawful, AreFew}
 use Rattle.repo_index.specs.declared.facts.PackFacts.{PackFacts}
+use Rattle.repo_prune.specs.Pruning.{AreCutInTime}
 use Rattle.repo_prune.specs.Relisting.{AreListable}
-use Rattle.repo_prune.proofs.Relistings.{in_first, in_rest, take_behind, some_taken, some_listable, listable_small, listable_lawful, listable_few}
+use Rattle.repo_prune.proofs.Relistings.{in_first, in_rest, take_behind, cut_in_time, some_taken, some_listable, listable_small, listable_lawful, listable_few}
 use Rattle.repo_prune.proofs.relisting.Relisting.next.Goals as goal
 
 pub returns-clause-on : goal.returns-clause-on
@@ -40,6 +41,7 @@ returns-clause-on c = λ listable.
       few = subst (λ ps. AreFew (take count ps)) rest_is are_few;
       short = put.2;
       behind = ap (take c.saturating_add-self.result) packs_same ∙ take_behind r.packs.items r.listed count c.saturating_add-self.result moved;
+      cut = subst (λ ps. AreCutInTime (take count ps)) rest_is (cut_in_time rest count c.cut-count.ensures.cut.before);
       full = elim c.cut-count.ensures.cut.full [
         | inl all ↦ inr (omega (arith, all, long, left, moved, below, ap length packs_same))
         | inr many ↦ inl (subst (λ (ps : List PackFacts). facts_limit ≤ length (facts_in (take count ps))) rest_is many)

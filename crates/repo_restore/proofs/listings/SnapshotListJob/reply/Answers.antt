@@ -1,7 +1,8 @@
 use Rattle.std.proofs.Common.{◌∷◌, [], List, refl, sym, subst, inl}
 use Rattle.repo_name.specs.declared.names.Name.{Name}
+use Rattle.repo_name.specs.declared.kinds.Thing.{Thing}
 use Rattle.repo_tree.specs.declared.snapshots.Snapshot.{Snapshot}
-use Rattle.repo_session.specs.Ends.{IsOfOtherVersion}
+use Rattle.repo_session.specs.Ends.{IsBad, IsSenseless, IsOfOtherVersion}
 use Rattle.repo_session.specs.Jobs.{task_under}
 use Rattle.repo_session.specs.Listings.{IsSnapshotListing}
 use Rattle.repo_session.specs.Traces.{Exchange, silent}
@@ -28,8 +29,10 @@ returns-in-All-clause-steps c = λ es w obeys asked.
 pub returns-in-Bad-clause-steps : goal.returns-in-Bad-clause-steps
 returns-in-Bad-clause-steps c = λ es w obeys asked.
     let holding = c.args.holder.now in
+    let e : Exchange = silent c.args.ask.now c.args.say.now in
     let lists = rw c.in-Bad.is at c.in_ok-next.ensures.ok in
-    (inl refl, inl (inl (lists (task_under list_rule holding.who) holding.token [] es w asked.may asked.knows)))
+    let bad = lists (task_under list_rule holding.who) holding.token [] es w asked.may asked.knows in
+    (inl refl, inl (inl (subst (λ versions. IsBad (upto versions) (e ∷ es) c.args.ask.now c.args.say.now Thing.Snapshot c.in-Bad.name) c.versions.ensures bad)))
 
 pub returns-in-Version-clause-steps : goal.returns-in-Version-clause-steps
 returns-in-Version-clause-steps c = λ es w obeys asked.
@@ -42,7 +45,8 @@ pub returns-in-Senseless-clause-steps : goal.returns-in-Senseless-clause-steps
 returns-in-Senseless-clause-steps c = λ es w obeys asked.
     let holding = c.args.holder.now in
     let lists = rw c.in-Senseless.is at c.in_ok-next.ensures.ok in
-    (inl refl, inl (inl (lists (task_under list_rule holding.who) holding.token [] es w asked.may asked.knows)))
+    let senseless = lists (task_under list_rule holding.who) holding.token [] es w asked.may asked.knows in
+    (inl refl, inl (inl (subst (λ versions. IsSenseless (upto versions) c.args.ask.now c.args.say.now) c.versions.ensures senseless)))
 
 pub returns-in-Unwelcome-clause-steps : goal.returns-in-Unwelcome-clause-steps
 returns-in-Unwelcome-clause-steps c = λ es w obeys asked.

@@ -1,4 +1,4 @@
-use Rattle.std.proofs.Common.{[], ◌∷◌, Vec, Global, refl, sym, ap, subst, inl, ◌∙◌}
+use Rattle.std.proofs.Common.{[], ◌∷◌, None, Vec, Global, refl, sym, ap, subst, inl, ◌∙◌}
 use Rattle.repo_session.specs.declared.emissions.Emission.{Emission}
 use Rattle.repo_session.specs.Jobs.{task_under}
 use Rattle.repo_session.specs.Traces.{Exchange, giving}
@@ -7,7 +7,7 @@ use Rattle.repo_restore.specs.declared.restores.Stage.{Stage}
 use Rattle.repo_restore.specs.Restoring.{restore_rule}
 use Rattle.repo_restore.specs.RestoreStates.{KnowsAtStage}
 use Rattle.repo_session.proofs.Descending.{root_grows}
-use Rattle.repo_restore.proofs.Advancing.{before_on, reads_allowed, turn_is}
+use Rattle.repo_restore.proofs.Advancing.{before_on, reads_allowed, turn_is, once_first}
 use Rattle.repo_session.proofs.KindReads.{due_index}
 use Rattle.repo_restore.proofs.restores.Restore.take_reading.Goals as goal
 
@@ -39,7 +39,8 @@ returns-in-All-clause-ok c = λ holding es w obeys asked.
       found = root_grows e es j.snapshot c.args.version tree known.1;
       indexes = reads.0;
       all = reads.1;
-      turns = turn_is c.read_on.new.self.lookup j.walk c.args.version tree (e ∷ es) [] [] c.start-turn.result before.nothing turns;
+      turns = turn_is None c.read_on.new.self.lookup j.walk c.args.version tree (e ∷ es) [] [] c.start-turn.result before.nothing (λ end r. absurd r) turns;
+      once = once_first j.catalog j.walk e es c.args.version tree c.start-turn.result known.0;
     })
 
 pub returns-in-Bad-clause-ok : goal.returns-in-Bad-clause-ok

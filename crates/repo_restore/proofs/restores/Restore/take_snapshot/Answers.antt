@@ -40,7 +40,7 @@ returns-then-not-is_named-clause-ok c = λ ask es w obeys asked.
     let n = j.snapshot in
     let N : List ℕ → Type 0 = λ y. naming.name y ≢ n in
     let other : naming.name c.as_slice-bytes.result.now ≢ n = λ h. (let yes = c.is_named.ensures.1 h in let no = c.if-not-is_named.true in absurd (cc)) in
-    let bad = bad_object Kind.Snapshot ask e.say n n c.in-Bytes.bytes (e ∷ es) known.0 refl c.in-Bytes.is (inl (subst N c.as_slice-bytes.ensures other)) in
+    let bad = bad_object (upto holding.who.versions) Kind.Snapshot ask e.say n n c.in-Bytes.bytes (e ∷ es) known.0 refl c.in-Bytes.is (inl (subst N c.as_slice-bytes.ensures other)) in
     (inl known.3.none_given, inl (inl bad))
 
 pub returns-in-Ok-clause-ok : goal.returns-in-Ok-clause-ok

@@ -1,11 +1,12 @@
-use Rattle.std.proofs.Common.{rules, ◌≡◌, ◌∙◌, ◌++◌, ◌∷◌, [], Bool, false, List, sym, ap, subst}
+use Rattle.std.proofs.Common.{rules, ◌≡◌, ◌≢◌, ◌∙◌, ◌++◌, ◌∷◌, [], Bool, false, List, sym, ap, subst}
 use Rattle.repo_backup.specs.Items.{fed_part}
+use Rattle.repo_backup.specs.declared.items.FeedError.{FeedError}
 use Rattle.repo_world.specs.Clients.{MayBeFed}
 use Rattle.repo_world.specs.inner.Seating.{SeatFed}
 use Rattle.repo_world.specs.Seats.{IsSeated, Seated, exchanges_of, kept_item, part_of, seated}
 use Rattle.repo_world.specs.declared.fed_items.FedItem.{FedItem}
 use Rattle.repo_world.specs.declared.seats.Intake.{Intake}
-use Rattle.repo_world.proofs.Intaking.{part_is}
+use Rattle.repo_world.proofs.Intaking.{part_is, refuses}
 use Rattle.repo_world.proofs.SeatParts.{fed_item, fed_seated, same_seat, still_seated}
 use Rattle.repo_world.proofs.seats.Seat.feed.Goals as goal
 
@@ -62,3 +63,22 @@ returns-in-Err-Memory-clause-err c =
     subst (λ (o : Seated). seated c.feed.new.self seat.pasts.items c.reserve.new.self.items seat.replies.items seat.crashed ≡ o) c.self.view_is
     (ap (λ l. seated c.feed.new.self seat.pasts.items l seat.replies.items seat.crashed) same
     ∙ same_seat seat.client c.feed.new.self seat.pasts.items seat.fed.items seat.replies.items c.self.invariant e.stays e.next.0 e.next.1 e.given e.emitted seat.crashed)
+
+pub returns : goal.returns
+returns c =
+    let seat = c.self.inside in
+    let e = c.in-Err.ensures in
+    let fed = subst (λ (s : Seated). MayBeFed s.client) (sym c.self.view_is) c.requires in
+    let same : c.reserve.new.self.items ≡ seat.fed.items = search rules in
+    let old : Seated = seated seat.client seat.pasts.items seat.fed.items seat.replies.items seat.crashed in
+    let other : c.in-Err.error ≢ FeedError.Memory = search rules in
+    let refused = refuses old.client c.args.item c.in-Err.error other e.unwanted (λ waits. e.fault fed.1 waits (exchanges_of seat.client seat.pasts.items seat.fed.items seat.replies.items) c.self.invariant.fits) in
+    let Fed : Seated → Type 0 = λ o. SeatFed o c.args.item (seated c.feed.new.self seat.pasts.items c.reserve.new.self.items seat.replies.items seat.crashed) (Intake.Unfed c.in-Err.error) in
+    record {
+      fed = subst Fed c.self.view_is (
+        refused,
+        ap (λ l. seated c.feed.new.self seat.pasts.items l seat.replies.items seat.crashed) same
+            ∙ same_seat seat.client c.feed.new.self seat.pasts.items seat.fed.items seat.replies.items c.self.invariant e.stays e.next.0 e.next.1 e.given e.emitted seat.crashed,
+      );
+      err = tt;
+    }

@@ -125,7 +125,8 @@ invariant_of-self-else-asks c =
     let fed : SeatFed s c.args.item new (Intake.Taken n) = subst (SeatFed s c.args.item new) c.in-Taken.is c.in_ok-error.ensures.fed in
     let t : TookItem (seat_at seats k) (fed_part n c.args.item) new = subst (λ (x : Seated). TookItem x (fed_part n c.args.item) new) (sym found) fed.1 in
     let rest : c.reserve.new.self.items ≡ messages = search rules in
-    subst (FlowStands (slice_set seats k new)) (sym rest) (last_stands seats messages k c.self.invariant less new t.requests t.replies t.ruled)
+    let none = none_from _ c.pending.result new.client.next c.pending.ensures (sym c.is_some-asks.ensures ∙ c.if-asks.false) in
+    subst (FlowStands (slice_set seats k new)) (sym rest) (last_stands seats messages k c.self.invariant less new t.requests t.replies none t.ruled)
 
 pub returns-in_ok-push-in-Taken-clause-gives : goal.returns-in_ok-push-in-Taken-clause-gives
 returns-in_ok-push-in-Taken-clause-gives c = λ store.

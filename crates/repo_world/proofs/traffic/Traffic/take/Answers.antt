@@ -102,7 +102,8 @@ invariant_of-self-else-is_some c =
     let took : SeatTook s place new Arrival.Taken = subst (SeatTook s place new) c.in-Taken.is c.in_ok-take.ensures.took in
     let t : TookReply (seat_at seats k) reply new = subst (λ (x : Seated). TookReply x (slice_index_or x.replies place silence) new) (sym found) took in
     let rest : c.reserve.new.self.items ≡ messages = search rules in
-    subst (FlowStands (slice_set seats k new)) (sym rest) (last_stands seats messages k c.self.invariant less new t.requests t.replies t.ruled)
+    let none = none_from _ c.pending.result new.client.next c.pending.ensures (sym c.is_some.ensures ∙ c.if-is_some.false) in
+    subst (FlowStands (slice_set seats k new)) (sym rest) (last_stands seats messages k c.self.invariant less new t.requests t.replies none t.ruled)
 
 pub returns-in-Unawaited-clause-arrives : goal.returns-in-Unawaited-clause-arrives
 returns-in-Unawaited-clause-arrives c = λ store.

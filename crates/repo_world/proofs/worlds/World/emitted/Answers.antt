@@ -9,12 +9,12 @@ use Rattle.repo_world.proofs.worlds.World.emitted.Goals as goal
 pub returns-in_err-seat : goal.returns-in_err-seat
 returns-in_err-seat g c =
     let seats = c.args.self.now.flow.seats in
-    let none = no_seat seats c.args.client (subst (λ (stage : Stage g.row.S.Denot). slice_get stage.flow.seats c.args.client ≡ None) c.self.view_is (sym c.in_err-seat.ensures)) in
+    let none = no_seat seats c.args.client (subst (λ (stage : Stage g.row.S.Denot). slice_get stage.flow.seats c.args.client ≡ None) c.self.view_is (sym c.in_err-seat.ensures.seat)) in
     rw c.from_residual.ensures (sym (ap (λ (x : Client). slice_get (given_out x.trace) c.args.place) (client_is seats c.args.client empty_seat none)))
 
 pub returns : goal.returns
 returns g c =
     let seats = c.args.self.now.flow.seats in
     let seat = c.in_ok-seat.field-0.now in
-    let there = seat_is seats c.args.client seat (subst (λ (stage : Stage g.row.S.Denot). slice_get stage.flow.seats c.args.client ≡ Some seat) c.self.view_is (sym c.in_ok-seat.ensures)) in
+    let there = seat_is seats c.args.client seat (subst (λ (stage : Stage g.row.S.Denot). slice_get stage.flow.seats c.args.client ≡ Some seat) c.self.view_is (sym c.in_ok-seat.ensures.seat)) in
     c.emitted.ensures ∙ ap (λ (x : Client). slice_get (given_out x.trace) c.args.place) (sym (client_is seats c.args.client seat there))
