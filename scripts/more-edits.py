@@ -70,23 +70,18 @@ class Copy:
         with open(f"{self.folder}/{file}", encoding="utf-8") as it:
             return it.read().split("\n")
 
+    def places(self, edit):
+        """The functions that an edit turns: their files, and the places of their lines there; None where it turns something else."""
+        return {(file, at) for file, text in self.texts(edit).items() for at in turned_functions(self.lines(file), text.split("\n"))}
+
     def turned(self, edit):
         """The functions that an edit turns: their files, and the lines of their names."""
-        found = set()
-        for file, text in self.texts(edit).items():
-            old = self.lines(file)
-            found |= {(file, None if at is None else old[at]) for at in turned_functions(old, text.split("\n"))}
-        return found
+        return {(file, None if at is None else self.lines(file)[at]) for file, at in self.places(edit)}
 
     def answers(self, edit):
         """The folders of the answers of the functions that an edit turns."""
-        found = set()
-        for file, text in self.texts(edit).items():
-            old = self.lines(file)
-            for at in turned_functions(old, text.split("\n")) - {None}:
-                if file.startswith("src/"):
-                    found.add(f"proofs/{name_of(self.folder, file, at).replace('::', '/')}/")
-        return found
+        names = [name_of(self.folder, file, at) for file, at in self.places(edit) if at is not None and file.startswith("src/")]
+        return tuple(f"proofs/{name.replace('::', '/')}/" for name in names)
 
     def check(self):
         """The exit status and the lines of a check."""
@@ -135,7 +130,7 @@ def own_answer(folders, told):
     """The first error in the answers of a function that was turned."""
     for line in told:
         at = PLACE.match(line)
-        if at and at[3].startswith("error") and at[1].startswith(tuple(folders)):
+        if at and at[3].startswith("error") and at[1].startswith(folders):
             return at[3][:110]
     return None
 
