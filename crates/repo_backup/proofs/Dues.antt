@@ -1,7 +1,7 @@
 -- Where no pack is due, and no index.
 use Rattle.std.proofs.Common.{◌≡◌, ◌<◌, ◌++◌, [], ℕ, Bool, List, length, Option, Some, None, refl, sym, ap, subst, inl, inr, ◌∙◌, append-nil, Contains}
 use Rattle.std.proofs.lemmas.List.Elements.{Contains-append_right, Contains-append_cases}
-use Rattle.repo_chunk.specs.Parameters.{Parameters}
+use Rattle.repo_chunk.specs.Parameters.{Parameters, AreLawful}
 use Rattle.repo_index.specs.IndexText.{facts_in}
 use Rattle.repo_index.specs.declared.facts.Fact.{Fact}
 use Rattle.repo_name.proofs.Containing.{none_contained}
@@ -24,6 +24,7 @@ use Rattle.repo_backup.specs.Standings.{Around, FileCut, made_at}
 use Rattle.repo_backup.specs.declared.packing.Packing.{Packing}
 use Rattle.repo_backup.specs.declared.piece_backing.PieceBacking.{PieceBacking}
 use Rattle.repo_backup.specs.declared.pieces.PieceFile.{PieceFile}
+use Rattle.repo_backup.proofs.BlobLengths.{made_short}
 use Rattle.repo_backup.proofs.Piecing.{plain, waiting_made}
 use Rattle.repo_backup.proofs.Written.{known_given, none_due}
 
@@ -61,15 +62,17 @@ pack_undue facts b puts es h unlaid =
     let waiting = waiting_in w.walk.file in
     let stands = plain w facts st sent [] unlaid h.stands in
     let sent_is : sent ++ [] ≡ items_of puts = append-nil sent ∙ ap items_of (append-nil puts) in
+    let made : (item : Item) → Contains (written ++ waiting) item → Contains (made_at w.walk.version st) item = λ item among. elim (Contains-append_cases written waiting item among) [
+      | inl here ↦ stands.of_made item (Contains-append_right (sent ++ []) written item here)
+      | inr waits ↦ waits_made w.walk.params w.walk.version st.done st.above st.over w.walk.file st.file stands.at.file item waits
+    ] in
+    let lawful : AreLawful w.walk.params = subst AreLawful (sym h.goes_by.params) h.at.has.reads.allowed.0 in
     record {
       config = h.config;
       st = st;
       at = h.at;
       items = written ++ waiting;
-      made = λ item among. subst (λ n. Contains (made_at n st) item) h.goes_by.version (elim (Contains-append_cases written waiting item among) [
-        | inl here ↦ stands.of_made item (Contains-append_right (sent ++ []) written item here)
-        | inr waits ↦ waits_made w.walk.params w.walk.version st.done st.above st.over w.walk.file st.file stands.at.file item waits
-      ]);
+      made = λ item among. subst (λ n. Contains (made_at n st) item) h.goes_by.version (made item among);
       all = λ item among. elim (each_contained (λ i. IsCoveredSoFar facts (all_items sent [] w.packing) w.walk.file i) (made_at w.walk.version st) item stands.covered (subst (λ n. Contains (made_at n st) item) (sym h.goes_by.version) among)) [
         | inl (inl fact) ↦ inl (known_given facts es item.kind item.name h.written.gives fact)
         | inl (inr has) ↦ inr (elim (has_either (sent ++ []) written item.kind item.name has) [
@@ -78,5 +81,6 @@ pack_undue facts b puts es h unlaid =
         ])
         | inr waits ↦ inr (inr (item, Contains-append_right written waiting item waits, refl, refl))
       ];
+      fits = λ item among. made_short w facts st sent [] lawful stands item (made item among);
       room = subst (λ t. IsOpen (record { items = written ++ waiting; target = t })) h.goes_by.aims (room_for w.walk.file w.packing h.opened);
     }

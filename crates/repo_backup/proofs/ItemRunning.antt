@@ -343,6 +343,11 @@ fed_more (first ∷ whole) item old mid new h k = (h.0, h.1, fed_more whole item
 pub so_far_none : (items : List Item) (asked : ℕ) (ended : Option Outcome) (es now : Trace) → StepGives (Ok asked) es now → SoFar [] items asked ended es now
 so_far_none items asked ended es now h = (h.1, inl h.0)
 
+-- what failed before the first item is told of all: none was fed
+pub so_far_failed : (items : List Item) (e : StepError) (ended : Option Outcome) (es now : Trace) → StepGives (Err e) es now → ItemsGive items (Err (items_error e)) ended es now
+so_far_failed items StepError.Limit ended es now h = (record { whole = []; left = items; all = refl; mid = fed_in now; fed = h.0; next = inl refl }, h.1)
+so_far_failed items StepError.Memory ended es now h = record { whole = []; left = items; all = refl; mid = fed_in now; fed = h; next = inl refl }
+
 -- it ended before the next
 pub so_far_ended : (whole left items : List Item) (asked : ℕ) (ended : Option Outcome) (es now : Trace) → items ≡ whole ++ left → ended ≢ None → SoFar whole items asked ended es now → ItemsGive items (Ok asked) ended es now
 so_far_ended whole left items asked ended es now all over (more, inl h) =

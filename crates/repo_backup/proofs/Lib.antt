@@ -31,6 +31,7 @@ pub mod PieceStepping
 pub mod Ending
 pub mod Waits
 pub mod Biting
+mod BlobLengths
 pub mod PieceReplying
 pub mod PieceTaking
 pub mod PieceFeeding

@@ -1,5 +1,5 @@
 -- What a backup that is fed items may put, and how it may end.
-use Rattle.std.specs.Prelude.{◌≡◌, ◌<◌, ◌⊎◌, ◌∷◌, [], ⊤, true, false, ℕ, List, length, None, Contains}
+use Rattle.std.specs.Prelude.{◌≡◌, ◌<◌, ◌≤◌, ◌⊎◌, ◌∷◌, [], ⊤, true, false, ℕ, List, length, None, Contains}
 use Rattle.repo_name.specs.Limits.{blob_limit}
 use Rattle.repo_name.specs.declared.kinds.BlobKind.TheVariants.{Tree}
 use Rattle.repo_name.specs.declared.kinds.Kind.{Kind}
@@ -105,8 +105,8 @@ PieceConcludes es (Outcome.Ended End.FileTooLarge) = PieceTooLarge 2 es
 PieceConcludes es (Outcome.Ended End.Abandoned) = AreTaken (fed_in es) × WasGivenUp (fed_in es)
 PieceConcludes es _ = ⊥
 
--- no pack is due: each blob made of the items so far is given by an index that was read, is in a pack that was put, or is among some that were made of them, with which a pack as large as the
--- config wants is open
+-- no pack is due: each blob made of the items so far is given by an index that was read, is in a pack that was put, or is among some that were made of them, none of them too large for a pack,
+-- with which a pack as large as the config wants is open
 pub record NoPackIsDue (es : Trace) : Type 0 where
   pub config : Config
   pub st : Standing
@@ -114,6 +114,7 @@ pub record NoPackIsDue (es : Trace) : Type 0 where
   pub items : List Item
   pub made : (item : Item) → Contains items item → Contains (made_at config.version st) item
   pub all : (item : Item) → Contains (made_at config.version st) item → IsGiven es item.kind item.name ⊎ (IsPacked es item.kind item.name ⊎ HasItem items item.kind item.name)
+  pub fits : (item : Item) → Contains items item → length item.bytes ≤ blob_limit
   pub room : IsOpen (record { items = items; target = config.target })
 
 -- it may want input: every index was read, the items may be taken, they haven't ended, and nobody gave up; all that was put is done, and neither a pack nor an index is due

@@ -1,5 +1,5 @@
--- A survey asks for nothing again.
-use Rattle.std.proofs.Common.{◌≡◌, ◌-◌, ◌∷◌, [], ℕ, zero, suc, arith, List, length, map, take, slice_get, Option, Some, None, refl, sym, ap, subst, inl, inr, ◌∙◌}
+-- A survey asks for nothing again, and for one kind after the other.
+use Rattle.std.proofs.Common.{◌≡◌, ◌-◌, ◌∷◌, [], ℕ, suc, arith, List, length, map, slice_get, Option, Some, None, refl, sym, ap, subst, inl, inr, ◌∙◌}
 use Rattle.repo_name.specs.Naming.{Before}
 use Rattle.repo_index.specs.Order.{names_total}
 use Rattle.repo_name.specs.declared.kinds.Kind.{Kind}
@@ -10,21 +10,21 @@ use Rattle.repo_wire.specs.declared.messages.Say.{Say}
 use Rattle.repo_store.specs.Pages.{Above, Has, NamesAscend}
 use Rattle.repo_session.specs.Blobs.{range_of}
 use Rattle.repo_session.specs.Order.{IsNextPage, May, Task, last_of}
-use Rattle.repo_session.specs.Traces.{Exchanged, Trace, WasAsked, names_in, ReadFact}
+use Rattle.repo_session.specs.Traces.{Trace, WasAsked, names_in, ReadFact}
 use Rattle.repo_session.proofs.Rolling.{not_among, not_before}
 use Rattle.repo_check.specs.Answers.{Answer, IsAnswer}
 use Rattle.repo_check.specs.Arrivals.{IsIndexOf, IsPackOf, IsRootOf}
 use Rattle.repo_name.specs.declared.kinds.BlobKind.TheVariants.{Tree}
 use Rattle.repo_index.specs.IndexText.{fact_of}
 use Rattle.repo_session.specs.Traces.{ReadFact}
-use Rattle.repo_check.specs.Checking.{MayRead}
+use Rattle.repo_check.specs.Checking.{AreAllHeard, IsAskedInTurn, MayRead}
 use Rattle.repo_check.specs.Laws.{HeardOnce}
-use Rattle.repo_check.specs.Rounds.{AreNoted, ArePast, IsGetting, KnowsRound, RoundView}
+use Rattle.repo_check.specs.Rounds.{AreNoted, ArePast, IsGetting, IsWholeRound, KnowsRound, RoundView}
 use Rattle.repo_check.specs.Surveys.{AtTrees, KnowsNotes, RoundsView, Surveys}
 use Rattle.repo_check.specs.Walks.{IsSettled, WalkView}
 use Rattle.repo_check.proofs.Finding.{got_once, has_name}
 use Rattle.repo_check.proofs.Reading.{seen_settled}
-use Rattle.repo_check.proofs.Rounding.{got_now, heard_of}
+use Rattle.repo_check.proofs.Rounding.{all_got, got_now, heard_of}
 use Rattle.repo_check.proofs.Trailing.{was_read}
 use Rattle.repo_index.specs.IndexText.{fact_of}
 use Rattle.repo_check.proofs.Walking.{due_not_settled}
@@ -86,6 +86,10 @@ page_new k after names es next listed past was =
     let p = past after was in
     none_past None names (subst (λ ns. NamesAscend None ns) listed next.rise.ascend) p.0 p.1 after (sym (next.last ∙ ap last_of listed)) p.2
 
+-- where each object was noted, each was heard of
+all_heard : {T : Type 0} (k : Kind) (Gives : Answer → T → Type 0) (round : RoundView T) (es : Trace) → IsWholeRound k round es → AreNoted k Gives round.names round.notes es → AreAllHeard k es
+all_heard k Gives round es whole noted = (noted.answers, all_got k Gives round es whole noted)
+
 module _ {T : Type 0} (k : Kind) (Gives : Answer → T → Type 0) (round : RoundView T) (es : Trace) (noted : AreNoted k Gives round.names round.notes es) where
   -- the next object wasn't asked for
   never_got : (n : Name) → IsGetting k round n es → WasAsked es (Ask.Get k n) → ⊥
@@ -96,23 +100,24 @@ module _ {T : Type 0} (k : Kind) (Gives : Answer → T → Type 0) (round : Roun
       let has : Has (map (λ (b : Answer). b.name) noted.answers) n = subst (λ m. Has (map (λ (b : Answer). b.name) noted.answers) m) named (has_name noted.answers a.0 a.1) in
       not_among None round.names (length round.notes) n (subst (λ ns. NamesAscend None ns) getting.paged.listed getting.paged.rise.ascend) getting.next (subst (λ ns. Has ns n) noted.named has)
 
-  round_new : (task : Task) (ask : Ask) → May task es ask → KnowsRound k round ask es → MayRead es ask
-  round_new task (Ask.List j after) may h =
+  -- what is pending of a round may be read, where the kinds before it were heard of
+  round_new : (task : Task) (ask : Ask) → May task es ask → IsAskedInTurn k es → KnowsRound k round ask es → MayRead es ask
+  round_new task (Ask.List j after) may turn h =
       let next = subst (λ i. IsNextPage i after es) h.0 may.1 in
-      λ was. page_new k after round.names es next h.1.rolled.paged.listed h.1.past (subst (λ i. WasAsked es (Ask.List i after)) h.0 was)
-  round_new task (Ask.Get j n) may h = λ was. never_got n h.1 (subst (λ i. WasAsked es (Ask.Get i n)) h.0 was)
-  round_new task Ask.Ticket may h = absurd h
-  round_new task (Ask.Lock row) may h = absurd h
-  round_new task (Ask.Refresh token time) may h = absurd h
-  round_new task (Ask.Unlock token) may h = absurd h
-  round_new task Ask.Locks may h = absurd h
-  round_new task (Ask.Range pack offset len) may h = absurd h
-  round_new task (Ask.Put token j n x) may h = absurd h
-  round_new task (Ask.Delete token j n) may h = absurd h
-  round_new task (Ask.Upgrade token) may h = absurd h
-  round_new task Ask.Config may h = absurd h
+      (λ was. page_new k after round.names es next h.1.rolled.paged.listed h.1.past (subst (λ i. WasAsked es (Ask.List i after)) h.0 was), subst (λ i. IsAskedInTurn i es) (sym h.0) turn)
+  round_new task (Ask.Get j n) may turn h = (λ was. never_got n h.1 (subst (λ i. WasAsked es (Ask.Get i n)) h.0 was), subst (λ i. IsAskedInTurn i es) (sym h.0) turn)
+  round_new task Ask.Ticket may turn h = absurd h
+  round_new task (Ask.Lock row) may turn h = absurd h
+  round_new task (Ask.Refresh token time) may turn h = absurd h
+  round_new task (Ask.Unlock token) may turn h = absurd h
+  round_new task Ask.Locks may turn h = absurd h
+  round_new task (Ask.Range pack offset len) may turn h = absurd h
+  round_new task (Ask.Put token j n x) may turn h = absurd h
+  round_new task (Ask.Delete token j n) may turn h = absurd h
+  round_new task (Ask.Upgrade token) may turn h = absurd h
+  round_new task Ask.Config may turn h = absurd h
 
--- where a tree's place was asked for, it was for another tree
+-- a tree's place comes after all objects; where it was asked for, it was for another tree
 range_new : (rounds : RoundsView) (walk : WalkView) (ask : Ask) (es : Trace) → KnowsNotes rounds es → AtTrees rounds walk ask es → MayRead es ask
 range_new rounds walk ask es notes at =
     let fact = at.fact in
@@ -129,10 +134,17 @@ range_new rounds walk ask es notes at =
             gives_one = was_read rounds walk.known.facts _ es notes at.objects.facts a.2.among;
             gives_other = given;
           },
+      all_heard Kind.Snapshot IsRootOf rounds.snapshots es at.objects.snapshots notes.snapshots,
+      all_heard Kind.Index IsIndexOf rounds.indexes es at.objects.indexes notes.indexes,
+      all_heard Kind.Pack IsPackOf rounds.packs es at.objects.packs notes.packs,
     )
 
+-- what is pending of a survey may be read
 pub survey_new : (task : Task) (rounds : RoundsView) (walk : WalkView) (ask : Ask) (es : Trace) → May task es ask → Surveys rounds walk ask es → MayRead es ask
-survey_new task rounds walk ask es may (notes, inl at) = round_new Kind.Snapshot IsRootOf rounds.snapshots es notes.snapshots task ask may at.snapshots
-survey_new task rounds walk ask es may (notes, inr (inl at)) = round_new Kind.Index IsIndexOf rounds.indexes es notes.indexes task ask may at.indexes
-survey_new task rounds walk ask es may (notes, inr (inr (inl at))) = round_new Kind.Pack IsPackOf rounds.packs es notes.packs task ask may at.packs
+survey_new task rounds walk ask es may (notes, inl at) = round_new Kind.Snapshot IsRootOf rounds.snapshots es notes.snapshots task ask may tt at.snapshots
+survey_new task rounds walk ask es may (notes, inr (inl at)) =
+    round_new Kind.Index IsIndexOf rounds.indexes es notes.indexes task ask may (all_heard Kind.Snapshot IsRootOf rounds.snapshots es at.snapshots notes.snapshots) at.indexes
+survey_new task rounds walk ask es may (notes, inr (inr (inl at))) =
+    let before : IsAskedInTurn Kind.Pack es = (all_heard Kind.Snapshot IsRootOf rounds.snapshots es at.snapshots notes.snapshots, all_heard Kind.Index IsIndexOf rounds.indexes es at.indexes notes.indexes) in
+    round_new Kind.Pack IsPackOf rounds.packs es notes.packs task ask may before at.packs
 survey_new task rounds walk ask es may (notes, inr (inr (inr at))) = range_new rounds walk ask es notes at

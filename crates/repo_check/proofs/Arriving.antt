@@ -1,5 +1,5 @@
 -- What a reply tells of one object.
-use Rattle.std.proofs.Common.{arith, ◌≡◌, ◌≢◌, ◌≤◌, ◌+◌, ◌++◌, ℕ, List, Some, None, length, refl, sym, ap, subst, ◌∙◌, length-append}
+use Rattle.std.proofs.Common.{arith, ◌≡◌, ◌≢◌, ◌≤◌, ◌+◌, ◌++◌, ℕ, List, Some, None, length, refl, sym, ap, subst, ◌∙◌, length-append, ⊎_elim}
 use Rattle.std.proofs.lemmas.List.Elements.{recursion_from_All}
 use Rattle.std.specs.Int.{w32, to_le_bytes}
 use Rattle.std.specs.Prelude.{IfOk, Result, Ok, Err}
@@ -8,6 +8,7 @@ use Rattle.repo_name.specs.declared.kinds.Kind.{Kind}
 use Rattle.repo_name.specs.declared.names.Name.{Name}
 use Rattle.repo_tree.specs.SnapshotText.{SnapshotFault}
 use Rattle.repo_tree.specs.declared.faults.TextError.{TextError}
+use Rattle.repo_session.proofs.Understanding.{snapshot_version}
 use Rattle.repo_session.specs.Versions.{upto}
 use Rattle.repo_session.specs.declared.versions.Versions.{Versions}
 use Rattle.repo_session.proofs.Faulting.{known_exist, snapshot_fault}
@@ -63,10 +64,25 @@ pack_length bytes items h =
 pub snapshot_misread : (versions : Versions) (n : Name) (x : List ℕ) (say : Say) (error : TextError) (look : SnapshotLook) → say ≡ Say.Bytes x → naming.name x ≡ n → SnapshotFault (upto versions) x error → MisreadAs error look → LooksAtSnapshot versions n say look
 snapshot_misread versions n x say error (SnapshotLook.Root root) h named fault is = absurd is
 snapshot_misread versions n x say error (SnapshotLook.Fault what) h named fault is =
-    subst (λ w. FaultyOf Kind.Snapshot n say w) (sym is.0) (misread Kind.Snapshot n x say h named (error, snapshot_fault (upto versions) (known_exist versions) x error is.2 fault, is.2, is.1))
+    let f = subst (λ w. FaultyOf Kind.Snapshot n say w) (sym is.0) (misread Kind.Snapshot n x say h named (error, snapshot_fault (upto versions) (known_exist versions) x error is.2 fault, is.2, is.1)) in
+    let O : Say → Type 0 = λ s. IsOfOtherVersion (upto versions) (Ask.Get Kind.Snapshot n) s in
+    (f.0, f.1, f.2, λ other. let o = subst O h other in ⊎_elim is.2 is.1 (snapshot_version (upto versions) x error fault o.1))
 snapshot_misread versions n x say error SnapshotLook.Version h named fault is =
     subst (λ s. IsOfOtherVersion (upto versions) (Ask.Get Kind.Snapshot n) s) (sym h) (named, subst (λ e. SnapshotFault (upto versions) x e) is fault)
 snapshot_misread versions n x say error SnapshotLook.Unwelcome h named fault is = absurd is
+
+-- bytes of another name, and none, are of no other version
+pub misnamed_snapshot : (versions : Versions) (n : Name) (say : Say) → (x : List ℕ) × (say ≡ Say.Bytes x) × (naming.name x ≢ n) → LooksAtSnapshot versions n say (SnapshotLook.Fault FaultKind.Name)
+misnamed_snapshot versions n say h =
+    let f = misnamed Kind.Snapshot n say h in
+    let O : Say → Type 0 = λ s. IsOfOtherVersion (upto versions) (Ask.Get Kind.Snapshot n) s in
+    (f.0, f.1, f.2, λ other. h.2 (subst O h.1 other).0)
+
+pub absent_snapshot : (versions : Versions) (n : Name) (say : Say) → say ≡ Say.Refused Code.Missing → LooksAtSnapshot versions n say (SnapshotLook.Fault FaultKind.Missing)
+absent_snapshot versions n say h =
+    let f = absent Kind.Snapshot n say h in
+    let O : Say → Type 0 = λ s. IsOfOtherVersion (upto versions) (Ask.Get Kind.Snapshot n) s in
+    (f.0, f.1, f.2, λ other. subst O h other)
 
 -- what holds of a result holds of it in other words
 pub ok_then : {T E : Type 0} (P Q : T → Type 0) (r : Result T E) → ((x : T) → P x → Q x) → IfOk r P → IfOk r Q

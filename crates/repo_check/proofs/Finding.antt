@@ -13,7 +13,7 @@ use Rattle.repo_name.specs.declared.kinds.Thing.{Thing}
 use Rattle.repo_name.specs.declared.names.Name.{Name}
 use Rattle.repo_pack.specs.declared.places.Place.{Place}
 use Rattle.repo_index.specs.IndexText.{fact_of, facts_in}
-use Rattle.repo_index.specs.Order.{place_cmp, kind_cmp, place_first, IsAtMost, places_total, place_first_total, names_total}
+use Rattle.repo_index.specs.Order.{place_cmp, kind_cmp, place_first, IsAtMost, places_total, place_first_total}
 use Rattle.repo_index.specs.declared.facts.Fact.{Fact}
 use Rattle.repo_index.specs.declared.facts.PackFacts.{PackFacts}
 use Rattle.repo_index.proofs.OneLemmas.{index_texts_one}

@@ -1,13 +1,13 @@
 -- What a check tells, whatever the replies.
 use Rattle.std.proofs.Common.{List}
 use Rattle.repo_wire.specs.declared.messages.Reply.{Reply}
-use Rattle.repo_session.specs.Clients.{IsObedient, IsObedientBy}
+use Rattle.repo_session.specs.Clients.{IsObedientBy}
 use Rattle.repo_session.specs.Sessions.{next_in, ended_in, who_in}
 use Rattle.repo_session.specs.Talks.{Talk, trace_of, CameIn}
 use Rattle.repo_session.specs.declared.outcomes.Outcome.{Outcome}
 use Rattle.repo_session.proofs.Taking.{came_in, stands_after}
 use Rattle.repo_check.specs.CheckStates.{FitsCheck, IsFreshCheck, KnowsCheck}
-use Rattle.repo_check.specs.Checking.{check_task, CheckAllows, CheckGives, CheckConcludes, check_rule}
+use Rattle.repo_check.specs.Checking.{check_rule}
 use Rattle.repo_check.specs.Laws.{CheckTook, CleanIsWhatCame, FaultsAreWhatCame}
 use Rattle.repo_session.specs.declared.sessions.Session.{Session}
 use Rattle.repo_session.specs.Obedience.{session_obeys}

@@ -368,6 +368,10 @@ pub ok_with : {T E : Type 0} (r : Result T E) (A : Type 0) (P Q : T → Type 0) 
 ok_with (Ok x) A P Q f a p = f x a p
 ok_with (Err e) A P Q f a p = p
 
+pub of_any : {T E : Type 0} (r : Result T E) (P : T → Type 0) → ((x : T) → P x) → IfOk r P
+of_any (Ok x) P h = h x
+of_any (Err e) P h = tt
+
 pub on_any : {T E P : Type 0} (r : Result T E) → P → OnErr r P
 on_any (Ok x) p = tt
 on_any (Err e) p = p

@@ -64,10 +64,10 @@ AreToldOf pack items facts = AreFactsAt pack items facts ⊎ ((facts ≡ []) × 
 abbrev pub IsPackOf : Answer → List Fact → Type 0
 IsPackOf a facts = (x : List ℕ) × (items : List Item) × AnswersBytes a x × IsTruePack x items × AreToldOf a.name items facts
 
--- what a reply tells of a snapshot, to who knows these versions: a root only of one of those
+-- what a reply tells of a snapshot, to who knows these versions: a root, or a fault, only where it brings none of a version that isn't known
 abbrev pub LooksAtSnapshot : Versions → Name → Say → SnapshotLook → Type 0
 LooksAtSnapshot versions n say (SnapshotLook.Root root) = (a : Answer) × IsAnswer n say a × IsRootOf a root × ¬ IsOfOtherVersion (upto versions) (Ask.Get Kind.Snapshot n) say
-LooksAtSnapshot versions n say (SnapshotLook.Fault what) = (a : Answer) × IsAnswer n say a × IsFaulty Kind.Snapshot a what
+LooksAtSnapshot versions n say (SnapshotLook.Fault what) = (a : Answer) × IsAnswer n say a × IsFaulty Kind.Snapshot a what × ¬ IsOfOtherVersion (upto versions) (Ask.Get Kind.Snapshot n) say
 LooksAtSnapshot versions n say SnapshotLook.Version = IsOfOtherVersion (upto versions) (Ask.Get Kind.Snapshot n) say
 LooksAtSnapshot versions n say SnapshotLook.Unwelcome = TellsNothing (Ask.Get Kind.Snapshot n) say
 

@@ -1,8 +1,7 @@
 -- What is known while a check goes on.
 use Rattle.std.specs.Prelude.{◌≡◌}
 use Rattle.repo_wire.specs.declared.messages.Ask.{Ask}
-use Rattle.repo_session.specs.Askers.{Asker}
-use Rattle.repo_session.specs.Sessions.{FitsSession, who_in}
+use Rattle.repo_session.specs.Sessions.{FitsSession}
 use Rattle.repo_session.specs.Traces.{Trace}
 use Rattle.repo_session.specs.declared.jobs.Step.{Step}
 use Rattle.repo_session.specs.declared.outcomes.Outcome.{Outcome}

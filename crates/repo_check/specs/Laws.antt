@@ -24,7 +24,7 @@ use Rattle.repo_index.specs.IndexText.{IsIndexText}
 use Rattle.repo_index.specs.declared.facts.PackFacts.{PackFacts}
 use Rattle.repo_check.specs.Answers.{Answer, Gathered, GivesFact}
 use Rattle.repo_check.specs.CheckStates.{FitsCheck}
-use Rattle.repo_check.specs.Checking.{check_task, IsFaultOf, IsFound, AreWell, IsClean, IsAtFault, AreAnswers}
+use Rattle.repo_check.specs.Checking.{IsFaultOf, IsFound, AreWell, IsClean, IsAtFault, AreAnswers}
 use Rattle.repo_session.specs.declared.sessions.Session.{Session}
 use Rattle.repo_check.specs.declared.checks.Check.{Check}
 

@@ -13,7 +13,7 @@ use Rattle.repo_session.specs.Talks.{Talk, trace_of, TalkRan, MayBeAhead}
 use Rattle.repo_session.specs.Traces.{Trace}
 use Rattle.repo_session.specs.declared.outcomes.End.{End}
 use Rattle.repo_session.specs.declared.outcomes.Outcome.{Outcome}
-use Rattle.repo_check.specs.Checking.{check_task, CheckAllows, CheckGives, CheckConcludes, check_rule}
+use Rattle.repo_check.specs.Checking.{check_task, check_rule}
 
 -- these exchanges, what is pending and the outcome are a check's
 abbrev pub IsCheck : Asker → Option Request → Option Outcome → Trace → Type 0

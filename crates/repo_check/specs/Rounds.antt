@@ -139,6 +139,10 @@ abbrev pub TakesSnapshot : Versions → RoundView Root → Name → Say → Turn
 TakesSnapshot versions old n say turn new = (task : Task) (token : Token) (es : Trace) → task.versions ≡ versions → IsWorking task token (silent (Ask.Get Kind.Snapshot n) say ∷ es) → IsGetting Kind.Snapshot old n es → AreNoted Kind.Snapshot IsRootOf old.names old.notes es
     → TurnsOn task Kind.Snapshot new turn (silent (Ask.Get Kind.Snapshot n) say) es × (GoesOn turn → AreNoted Kind.Snapshot IsRootOf new.names new.notes (silent (Ask.Get Kind.Snapshot n) say ∷ es))
 
+-- one that brings a snapshot of a version that isn't among these comes to that
+abbrev pub HeedsSnapshot : Versions → Name → Say → Turn → Type 0
+HeedsSnapshot versions n say turn = IsOfOtherVersion (upto versions) (Ask.Get Kind.Snapshot n) say → turn ≡ Turn.Version
+
 -- there is one note more
 pub record HasOneMore {T : Type 0} (old new : RoundView T) : Type 0 where
   pub kind : new.kind ≡ old.kind

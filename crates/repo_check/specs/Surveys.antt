@@ -17,7 +17,7 @@ use Rattle.repo_session.specs.declared.outcomes.FaultKind.{FaultKind}
 use Rattle.repo_session.specs.Blobs.{range_of}
 use Rattle.repo_session.specs.Ends.{IsOfOtherVersion, IsSenseless}
 use Rattle.repo_session.specs.Jobs.{IsShort}
-use Rattle.repo_session.specs.Order.{Task, IsWorking, May, last_of, opened}
+use Rattle.repo_session.specs.Order.{Task, IsWorking, May, last_of, opened, IsWork}
 use Rattle.repo_session.specs.Traces.{Exchange, Exchanged, Trace, silent}
 use Rattle.repo_reach.specs.declared.roots.Root.{Root}
 use Rattle.repo_tree.specs.Spelling.{greatest_depth}
@@ -153,6 +153,10 @@ TakesSurvey rounds walk ask say next rounds' walk' = (task : Task) (token : Toke
 abbrev pub TakesSurveyBy : Versions → RoundsView → WalkView → Ask → Say → Next → RoundsView → WalkView → Type 0
 TakesSurveyBy versions rounds walk ask say next rounds' walk' = (task : Task) (token : Token) (es : Trace) → task.versions ≡ versions → IsWorking task token (silent ask say ∷ es) → May task es ask → Surveys rounds walk ask es
     → SurveysOn task rounds' walk' next (silent ask say) es
+
+-- a reply that brings what is of a version that isn't among these comes to that
+abbrev pub SurveyHeeds : Versions → Ask → Say → Next → Type 0
+SurveyHeeds versions ask say next = IsWork ask → IsOfOtherVersion (upto versions) ask say → next ≡ Next.Version
 
 -- ---- the walk
 

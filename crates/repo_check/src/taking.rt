@@ -12,7 +12,7 @@ ghost use Rattle.repo_index.specs.declared.facts.Fact.{Fact};
 ghost use Rattle.repo_check.specs.Walks.{walk_of};
 ghost use Rattle.repo_check.specs.declared.rounds.Turn.{Turn};
 ghost use Rattle.repo_check.specs.declared.surveys.Next.{Next};
-ghost use Rattle.repo_check.specs.Surveys.{WalkBegins, GoesAfter, GoesToTrees, WalkHasBegun, IsShortNext, SurveyHasTaken, SurveyKnows, SurveyTakes, SurveyTakesBy, next_of, rounds_of, StaysAtPage, StaysAtTree};
+ghost use Rattle.repo_check.specs.Surveys.{WalkBegins, GoesAfter, GoesToTrees, WalkHasBegun, IsShortNext, SurveyHasTaken, SurveyHeeds, SurveyKnows, SurveyTakes, SurveyTakesBy, next_of, rounds_of, StaysAtPage, StaysAtTree};
 
 use crate::gathering::{lookup_of, visits_of};
 use crate::knowing::note_of;
@@ -75,6 +75,7 @@ impl Survey {
         say: &Say,
     ) -> Result<Next, AllocError>
         ensures takes { IfOk result (λ next. SurveyTakesBy versions self.old (Ask.Get Kind.Snapshot name) say.now next self.new) }
+        ensures heeds { IfOk result (SurveyHeeds versions (Ask.Get Kind.Snapshot name) say.now) }
         ensures more { IfOk result (λ next. next ≢ Next.Over) }
         ensures short { IfOk result IsShortNext }
         ensures same { OnErr result (rounds_of self.new ≡ rounds_of self.old) }
@@ -217,6 +218,7 @@ impl Survey {
         say: &Say,
     ) -> Result<Next, AllocError>
         ensures takes { IfOk result (λ next. SurveyTakesBy versions self.old (Ask.Get kind name) say.now next self.new) }
+        ensures heeds { IfOk result (SurveyHeeds versions (Ask.Get kind name) say.now) }
         ensures over { IfOk result (λ next. next ≡ Next.Over → SurveyHasTaken self.old (Ask.Get kind name) self.new) }
         ensures short { IfOk result IsShortNext }
         ensures same { OnErr result (rounds_of self.new ≡ rounds_of self.old) }
@@ -232,6 +234,7 @@ impl Survey {
     /// known is known.
     pub fn take(&mut self, versions: Versions, ask: &Ask, say: &Say) -> Result<Next, AllocError>
         ensures takes { IfOk result (λ next. SurveyTakesBy versions self.old ask.now say.now next self.new) }
+        ensures heeds { IfOk result (SurveyHeeds versions ask.now say.now) }
         ensures over { IfOk result (λ next. next ≡ Next.Over → SurveyHasTaken self.old ask.now self.new) }
         ensures short { IfOk result IsShortNext }
         ensures knows { OnErr result ((es : Trace) → SurveyKnows self.old ask.now es → SurveyKnows self.new ask.now es) }

@@ -3,7 +3,7 @@
 ghost use Rattle.std.specs.Prelude.{◌≡◌, IfOk, OnErr};
 ghost use Rattle.repo_name.specs.declared.kinds.Kind.{Kind};
 ghost use Rattle.repo_check.specs.Arrivals.{IsIndexOf, IsPackOf};
-ghost use Rattle.repo_check.specs.Rounds.{HasOneMore, IsShortTurn, TakesObject, TakesSnapshot, round_of};
+ghost use Rattle.repo_check.specs.Rounds.{HasOneMore, HeedsSnapshot, IsShortTurn, TakesObject, TakesSnapshot, round_of};
 ghost use Rattle.repo_check.specs.declared.rounds.Turn.{Turn};
 
 use crate::objects::{
@@ -27,6 +27,7 @@ pub fn take_snapshot(
     say: &Say,
 ) -> Result<Turn, AllocError>
     ensures takes { IfOk result (λ turn. TakesSnapshot versions (round_of round.old) name say.now turn (round_of round.new)) }
+    ensures heeds { IfOk result (HeedsSnapshot versions name say.now) }
     ensures short { IfOk result IsShortTurn }
     ensures same { OnErr result (round_of round.new ≡ round_of round.old) }
 {

@@ -1,20 +1,16 @@
 -- Where a backup that feeds itself stands, one that is fed stands with some items.
 use Rattle.std.proofs.Common.{arith, ◌≡◌, ◌⊎◌, ◌+◌, ◌∷◌, [], ℕ, List, length, Option, Some, None, refl, sym, ap, subst, inl, inr, lit≤, ◌∙◌}
 use Rattle.std.proofs.lemmas.Option.{none-some, same_Some}
-use Rattle.repo_name.specs.declared.kinds.Kind.{Kind}
-use Rattle.repo_name.specs.declared.names.Name.{Name}
-use Rattle.repo_name.specs.declared.kinds.Thing.{Thing}
 use Rattle.repo_name.specs.declared.tokens.Token.{Token}
-use Rattle.repo_index.specs.declared.facts.Fact.{Fact}
 use Rattle.repo_wire.specs.declared.messages.Ask.{Ask}
 use Rattle.repo_wire.specs.declared.messages.Request.{Request}
 use Rattle.repo_wire.specs.declared.messages.Say.{Say}
 use Rattle.repo_session.specs.Askers.{Asker}
-use Rattle.repo_session.specs.Ends.{Concludes, MayConclude, NumbersAreSpent, IsBad, CausedBy, IsCause, before_unlock, without_unlock}
+use Rattle.repo_session.specs.Ends.{Concludes, MayConclude, NumbersAreSpent, IsCause, IsUnderstood, AreUnderstood, before_unlock, without_unlock}
 use Rattle.repo_session.specs.Feeds.{Fed}
 use Rattle.repo_session.specs.Obedience.{holds_whole}
 use Rattle.repo_session.specs.Order.{Task, Holds, IsPermitted, IsUnlock, IsWork, May, Obeys, ticketed}
-use Rattle.repo_session.specs.Traces.{fed_in, Exchange, Trace, ReadFact, giving, silent}
+use Rattle.repo_session.specs.Traces.{fed_in, Each, Exchange, Trace, giving, silent}
 use Rattle.repo_session.specs.Versions.{upto}
 use Rattle.repo_session.specs.declared.outcomes.End.{End}
 use Rattle.repo_session.specs.declared.outcomes.Outcome.{Outcome}
@@ -25,7 +21,7 @@ use Rattle.repo_feeding.specs.FedObedience.{told_first}
 use Rattle.repo_feeding.specs.FedLaws.{FedClientsAreFed, IsFedClient, StandsAsFed}
 use Rattle.repo_feeding.specs.FedRules.{AreWelcome, IsAsTold, FedAllows, FedConcludes, IsFedLate, IsFedSo}
 use Rattle.repo_feeding.specs.Unfed.{unfed}
-use Rattle.repo_feeding.specs.Unseen.{as_silent, holds_so, locked_late, so_exchanged, so_holds, unfed_late, unfed_length}
+use Rattle.repo_feeding.specs.Unseen.{as_silent, before_so, holds_so, locked_late, so_holds, unfed_late, unfed_length}
 
 -- ---- what holds without what was fed holds with it
 
@@ -44,39 +40,20 @@ ticketed_late task token (e ∷ f ∷ fs) late same = absurd (cc)
 so_spent : (fs : Trace) → NumbersAreSpent (unfed fs) → NumbersAreSpent fs
 so_spent fs h = omega (arith, h, unfed_length fs)
 
-so_fact : (fs : Trace) (fact : Fact) → ReadFact (unfed fs) fact → ReadFact fs fact
-so_fact fs fact h = record { index = h.index; text = h.text; read = (so_exchanged fs (Ask.Get Kind.Index h.index) (Say.Bytes h.text) h.read.0, h.read.1); says = h.says }
-
-so_bad : (known : ℕ) (fs : Trace) (ask : Ask) (say : Say) (thing : Thing) (name : Name) → IsBad known (unfed fs) ask say thing name → IsBad known fs ask say thing name
-so_bad known fs (Ask.Range pack offset len) say thing name h = (h.0, h.1, h.2, so_fact fs h.1 h.3, h.4, h.5, h.6, h.7, h.8, h.9)
-so_bad known fs Ask.Ticket say thing name h = h
-so_bad known fs (Ask.Lock row) say thing name h = h
-so_bad known fs (Ask.Refresh t time) say thing name h = h
-so_bad known fs Ask.Locks say thing name h = h
-so_bad known fs (Ask.List j after) say thing name h = h
-so_bad known fs (Ask.Get j n) say thing name h = h
-so_bad known fs (Ask.Put t j n x) say thing name h = h
-so_bad known fs (Ask.Delete t j n) say thing name h = h
-so_bad known fs (Ask.Upgrade t) say thing name h = h
-so_bad known fs Ask.Config say thing name h = h
-so_bad known fs (Ask.Unlock t) say thing name h = h
-
-so_caused : (known : ℕ) (fs : Trace) (ask : Ask) (say : Say) (end : End) → CausedBy known (unfed fs) ask say end → CausedBy known fs ask say end
-so_caused known fs ask say End.Busy h = h
-so_caused known fs ask say End.Fenced h = h
-so_caused known fs ask say (End.Missing thing name) h = h
-so_caused known fs ask say (End.Refused code) h = h
-so_caused known fs ask say (End.BadObject thing name) h = so_bad known fs ask say thing name h
-so_caused known fs ask say End.BadReply h = h
-so_caused known fs ask say End.Version h = h
-so_caused known fs ask say End.DirectoryTooLarge h = h
-so_caused known fs ask say End.FileTooLarge h = h
-so_caused known fs ask say End.Abandoned h = h
-
 so_cause : (known : ℕ) (fs : Trace) (end : End) → IsCause known (unfed fs) end → IsCause known fs end
 so_cause known [] end h = h
-so_cause known (e ∷ fs) end (inl h) = inl (so_caused known (e ∷ fs) e.ask e.say end h)
+so_cause known (e ∷ fs) end (inl h) = inl h
 so_cause known (e ∷ fs) end (inr (is, spent)) = inr (is, so_spent (e ∷ fs) spent)
+
+-- what came with what was fed was understood, where it was without it
+so_each_understood : (known : ℕ) (fs : Trace) → Each (IsUnderstood known) (unfed fs) → Each (IsUnderstood known) fs
+so_each_understood known [] h = h
+so_each_understood known (e ∷ fs) h = (h.0, so_each_understood known fs h.1)
+
+-- so was all of it, but for what ended the job
+so_understood : (known : ℕ) (outcome : Option Outcome) (fs : Trace) → AreUnderstood known outcome (unfed fs) → AreUnderstood known outcome fs
+so_understood known outcome [] h = h
+so_understood known outcome (e ∷ fs) h = (h.0, so_each_understood known fs h.1)
 
 unfed_first : (e : Exchange) (es : Trace) → unfed (e ∷ es) ≡ e ∷ es → giving e.ask e.say e.emitted ≡ e
 unfed_first e es same = cc
@@ -273,6 +250,8 @@ module _ (who : Asker) (whole : Option (List Fed)) where
       settled = λ none no. absurd (h.settled none no);
       concluded = concluded;
       released = λ none is token holds. so_spent f.fs (subst NumbersAreSpent (sym f.same) (h.released none is token (subst (λ x. Holds (piece_task who) token x) f.same (holds_so (piece_task who) token f.fs holds))));
+      understood = so_understood (upto (piece_task who).versions) outcome (before_unlock f.fs)
+          (subst (λ x. AreUnderstood (upto (piece_task who).versions) outcome x) (before_so f.fs) (subst (λ x. AreUnderstood (upto (piece_task who).versions) outcome (before_unlock x)) (sym f.same) h.understood));
       beside = h.beside;
       ending = h.ending;
     };

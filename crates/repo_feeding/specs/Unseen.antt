@@ -9,11 +9,11 @@ use Rattle.repo_wire.specs.declared.messages.Say.{Say}
 use Rattle.repo_index.specs.declared.facts.Fact.{Fact}
 use Rattle.repo_store.specs.Pages.{Has, NamesAscend}
 use Rattle.repo_session.specs.Feeds.{Fed}
-use Rattle.repo_session.specs.Ends.{NumbersAreSpent, IsBad, CausedBy, IsCause, without_unlock, before_unlock}
+use Rattle.repo_session.specs.Ends.{NumbersAreSpent, IsCause, IsUnderstood, AreUnderstood, without_unlock, before_unlock}
 use Rattle.repo_session.specs.Order.{Task, locked, lock_row, opened, IsUnfenced, IsNoUnlock, StaysHeld, Holds, IsWorking, IsNextPage, MayGet, MayRange, May, last_of}
 use Rattle.repo_session.specs.Traces.{Each, Exchange, Trace, Exchanged, giving, silent, names_in, page_names, is_complete, is_last_page, Rise, Lists, ReadFact}
 use Rattle.repo_session.specs.declared.outcomes.End.{End}
-use Rattle.repo_name.specs.declared.kinds.Thing.{Thing}
+use Rattle.repo_session.specs.declared.outcomes.Outcome.{Outcome}
 use Rattle.repo_feeding.specs.FedRules.{IsFedLate}
 use Rattle.repo_feeding.specs.Unfed.{unfed}
 
@@ -166,33 +166,17 @@ before_so (e ∷ es) = without_so e.ask (e ∷ es) es
 pub spent_so : (es : Trace) → NumbersAreSpent es → NumbersAreSpent (unfed es)
 spent_so es h = omega (arith, h, unfed_length es)
 
-bad_so : (known : ℕ) (es : Trace) (ask : Ask) (say : Say) (thing : Thing) (name : Name) → IsBad known es ask say thing name → IsBad known (unfed es) ask say thing name
-bad_so known es (Ask.Get k n) say thing name h = h
-bad_so known es (Ask.Range pack offset len) say thing name h = (h.0, h.1, h.2, fact_so es h.1 h.3, h.4, h.5, h.6, h.7, h.8, h.9)
-bad_so known es Ask.Ticket say thing name h = h
-bad_so known es (Ask.Lock row) say thing name h = h
-bad_so known es (Ask.Refresh token time) say thing name h = h
-bad_so known es (Ask.Unlock token) say thing name h = h
-bad_so known es Ask.Locks say thing name h = h
-bad_so known es (Ask.List k after) say thing name h = h
-bad_so known es (Ask.Put token k n x) say thing name h = h
-bad_so known es (Ask.Delete token k n) say thing name h = h
-bad_so known es Ask.Config say thing name h = h
-bad_so known es (Ask.Upgrade token) say thing name h = h
-
-caused_so : (known : ℕ) (es : Trace) (ask : Ask) (say : Say) (end : End) → CausedBy known es ask say end → CausedBy known (unfed es) ask say end
-caused_so known es ask say End.Busy h = h
-caused_so known es ask say End.Fenced h = h
-caused_so known es ask say (End.Missing thing name) h = h
-caused_so known es ask say (End.Refused code) h = h
-caused_so known es ask say (End.BadObject thing name) h = bad_so known es ask say thing name h
-caused_so known es ask say End.BadReply h = h
-caused_so known es ask say End.Version h = h
-caused_so known es ask say End.DirectoryTooLarge h = h
-caused_so known es ask say End.FileTooLarge h = h
-caused_so known es ask say End.Abandoned h = h
-
 pub cause_so : (known : ℕ) (es : Trace) (end : End) → IsCause known es end → IsCause known (unfed es) end
 cause_so known [] end h = h
-cause_so known (e ∷ es) end (inl h) = inl (caused_so known (e ∷ es) e.ask e.say end h)
+cause_so known (e ∷ es) end (inl h) = inl h
 cause_so known (e ∷ es) end (inr (is, spent)) = inr (is, spent_so (e ∷ es) spent)
+
+-- what came without what was fed was understood, where it was with it
+each_understood_so : (known : ℕ) (es : Trace) → Each (IsUnderstood known) es → Each (IsUnderstood known) (unfed es)
+each_understood_so known [] h = h
+each_understood_so known (e ∷ es) h = (h.0, each_understood_so known es h.1)
+
+-- so was all of it, but for what ended the job
+pub understood_so : (known : ℕ) (outcome : Option Outcome) (es : Trace) → AreUnderstood known outcome es → AreUnderstood known outcome (unfed es)
+understood_so known outcome [] h = h
+understood_so known outcome (e ∷ es) h = (h.0, each_understood_so known es h.1)

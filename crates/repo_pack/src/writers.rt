@@ -1,9 +1,9 @@
 //! Packs as they are written.
 
-ghost use Rattle.std.specs.Prelude.{◌≡◌, ◌≤◌, ◌<◌, ◌+◌, ◌-◌, ◌^◌, ◌++◌, [], ◌↔◌, length, IsTrue, IfOk, IfErr, OnOk, OnErr, IsErrOf, IfSome, IfNone, vec_len, vec_capacity};
+ghost use Rattle.std.specs.Prelude.{◌≡◌, ◌≤◌, ◌<◌, ◌+◌, ◌-◌, ◌^◌, ◌++◌, [], ◌↔◌, All, length, IsTrue, IfOk, IfErr, OnOk, OnErr, IsErrOf, IfSome, IfNone, vec_len, vec_capacity};
 ghost use Rattle.std.specs.List.{All, sum_by};
 ghost use Rattle.repo_name.specs.Naming as naming;
-ghost use Rattle.repo_pack.specs.PackLayout.{Item, item_of, blobs_of, IsTruePack, IsWithin};
+ghost use Rattle.repo_pack.specs.PackLayout.{Item, IsItem, item_of, blobs_of, IsTruePack, IsWithin};
 ghost use Rattle.repo_pack.specs.PackWriting.{IsDue, IsOpen, IsRefusal, with_item, ending_of, placed_from, ArePlaced};
 ghost use Rattle.repo_name.specs.Limits.{blob_limit, blobs_limit, greatest_target, least_target, pack_limit};
 
@@ -144,10 +144,11 @@ impl PackWriter {
     }
 
     /// Whether the blobs' bytes reach the target, or there are 4,096 blobs. Then it takes no more, and there is a
-    /// blob.
+    /// blob. Whichever it is, each blob has a length that a blob may have.
     pub fn is_due(&self) -> bool
         ensures due { IsTrue result ↔ IsDue self.now }
         ensures some { IsTrue result → 1 ≤ length self.now.items }
+        ensures sized { All IsItem self.now.items }
     {
         self.blobs.len() >= self.target as usize || self.rows.len() >= BLOBS_LIMIT
     }

@@ -71,8 +71,8 @@ abbrev pub OrderGives : Order → Option (List ℕ) → Option (List ℕ) → Op
 OrderGives Order.Frames input left start status contents = (text : List ℕ) → input ≡ Some text → FramesGives text start status contents
 OrderGives Order.Play input left start status contents = (text : List ℕ) → input ≡ Some text → PlayGives text start status contents
 OrderGives Order.Loop input left start status contents = (text : List ℕ) → input ≡ Some text → LoopGives text start status left contents
-OrderGives (Order.Init folder making) input left start status contents = (left ≡ input) × IsEnd status × (status ≡ Status.Done → (id : Instance) × Appends start contents (created_line id))
-    × (status ≡ Status.Failed → (contents ≡ start) ⊎ ((id : Instance) × IsCutShort start contents (created_line id)))
+OrderGives (Order.Init folder making) input left start status contents = (left ≡ input) × IsEnd status × (status ≡ Status.Done → (id : Instance) × IsInstance id × Appends start contents (created_line id))
+    × (status ≡ Status.Failed → (contents ≡ start) ⊎ ((id : Instance) × IsInstance id × IsCutShort start contents (created_line id)))
 OrderGives (Order.Serve folder address serving) input left start status contents = (left ≡ input) × IsEnd status × (status ≡ Status.Done → Appends start contents listening_line)
     × (status ≡ Status.Failed → IsCutShort start contents listening_line ⊎ Appends start contents listening_line)
 OrderGives (Order.Client address errand retry idle) input left start status contents = (left ≡ input) × AddressGives errand retry start status contents

@@ -127,9 +127,9 @@ where
     requires { IsMaking making.now }
     ensures silent { result ≡ Status.Done → faults.new ≡ faults.old }
     ensures status { IsEnd result }
-    ensures written { result ≡ Status.Done → (id : Instance) × Appends (W.contents output.old) (W.contents output.new) (created_line id) }
+    ensures written { result ≡ Status.Done → (id : Instance) × IsInstance id × Appends (W.contents output.old) (W.contents output.new) (created_line id) }
     ensures cut { result ≡ Status.Failed → (W.contents output.new ≡ W.contents output.old)
-        ⊎ ((id : Instance) × IsCutShort (W.contents output.old) (W.contents output.new) (created_line id)) }
+        ⊎ ((id : Instance) × IsInstance id × IsCutShort (W.contents output.old) (W.contents output.new) (created_line id)) }
 {
     let Ok(id) = random_instance(rt) else {
         return failed(faults, &"read failed");

@@ -184,6 +184,7 @@ prune_barred who from to failed talk outcome fit versions appends apart low ran 
     let h = led from talk to ran.run in
     let agree = held_agree from (IsSent es None) (λ x. ⊥) apart from.objects (λ k n x p. inl (n, p)) fit.sound.named in
     let none = none_done (prune_task who) PruneAllows PruneGives from fit appends talk to h is.obeys in
-    prunes_no_pack from es outcome (λ other own. prunes_none who es is.obeys none other (own_before who from fit agree talk to is.obeys h other own) own)
+    let sound = prunes.throughout who from fit.sound (IsSent es None) apart talk is.obeys (λ ask w. w) in
+    prunes_no_pack from es outcome (λ other own. prunes_none who es is.obeys none other (own_before who from fit agree talk to is.obeys h sound other own) own)
     (ends_either (prune_task who) PruneAllows PruneGives PruneConcludes (λ fs ask o permitted reading. forgets.undeleted fs (prune_reads_first fs ask permitted reading)) from fit tt versions (puts_none (prune_task who) PruneAllows (λ fs token n x p. p)) talk to outcome is h
-    (prunes.throughout who from fit.sound (IsSent es None) apart talk is.obeys (λ ask w. w)) (calm_of failed talk low ran.cause) few)
+    sound (calm_of failed talk low ran.cause) few)

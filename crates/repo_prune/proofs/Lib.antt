@@ -19,6 +19,7 @@ pub mod AppendOnly
 pub mod PruneLeaves
 pub mod Relistings
 pub mod Asides
+pub mod Heeding
 pub mod PruneListing
 pub mod PruneStages
 pub mod PruneTrees

@@ -1,5 +1,5 @@
 -- How a prune ends that is alone with its store.
-use Rattle.std.proofs.Common.{◌≡◌, ◌∷◌, [], ℕ, List, Option, Some, None, refl, sym, subst, inl, ⊎_elim, Contains, ◌∙◌}
+use Rattle.std.proofs.Common.{◌≡◌, ◌∷◌, [], ℕ, List, Option, Some, None, refl, sym, subst, inl, inr, ⊎_elim, Contains, ◌∙◌}
 use Rattle.std.proofs.lemmas.Option.{same_Some}
 use Rattle.repo_name.specs.declared.kinds.BlobKind.{BlobKind}
 use Rattle.repo_name.specs.declared.kinds.Kind.{Kind}
@@ -9,6 +9,7 @@ use Rattle.repo_name.specs.declared.tokens.Token.{Token}
 use Rattle.repo_wire.specs.declared.messages.Ask.{Ask}
 use Rattle.repo_wire.specs.declared.messages.Code.{Code}
 use Rattle.repo_index.specs.IndexText.{Says}
+use Rattle.repo_index.specs.declared.facts.Fact.{Fact}
 use Rattle.repo_tree.specs.Laws.{Agree}
 use Rattle.repo_tree.specs.Parts.{Blobs}
 use Rattle.repo_tree.specs.Spelling.{Spells}
@@ -20,6 +21,7 @@ use Rattle.repo_session.specs.declared.outcomes.End.{End}
 use Rattle.repo_session.specs.declared.outcomes.Outcome.{Outcome}
 use Rattle.repo_session.specs.Alone.{IsFit, IsSent, EndsWell}
 use Rattle.repo_session.specs.Askers.{Asker}
+use Rattle.repo_session.specs.Clients.{exchange}
 use Rattle.repo_session.specs.Deletions.{NoneDeleted}
 use Rattle.repo_session.specs.Ends.{before_unlock}
 use Rattle.repo_session.specs.Order.{IsPermitted, IsReading, Obeys}
@@ -27,9 +29,11 @@ use Rattle.repo_session.specs.Received.{Received}
 use Rattle.repo_session.specs.Soundness.{IsHeld}
 use Rattle.repo_session.specs.Talks.{Talk, trace_of}
 use Rattle.repo_session.specs.Told.{AskedToPut}
-use Rattle.repo_session.specs.Traces.{Trace, Object, WasAsked, Lists, ReadFact}
+use Rattle.repo_session.specs.Traces.{Exchange, Trace, Object, WasAsked, Lists, ReadFact}
 use Rattle.repo_session.specs.Trees.{HasRoot, IsUnindexed}
-use Rattle.repo_session.proofs.Concluding.{calm_of, either, ends_well, known, puts_none}
+use Rattle.repo_session.proofs.Causes.{part_good}
+use Rattle.repo_session.proofs.Concluding.{IsSoundThroughout, calm_of, either, ends_well, known, puts_none}
+use Rattle.repo_session.proofs.Deleting.{DeletesNone, none_deleted_on}
 use Rattle.repo_name.proofs.Containing.{none_contained}
 use Rattle.repo_session.proofs.Descending.{under_grows, reach_grows, broken_grows, needed_there, unbroken}
 use Rattle.repo_session.proofs.Reaching.{reached_needed}
@@ -39,14 +43,14 @@ use Rattle.repo_session.proofs.Spoken.{held_agree}
 use Rattle.repo_session.proofs.Telling.{seen_run}
 use Rattle.repo_writing.proofs.PutLemmas.{asked_put}
 use Rattle.repo_prune.specs.PruneLaws.{IsPrunedOrMemory, PruneEndsWell}
-use Rattle.repo_prune.specs.Pruning.{prune_task, IsUntouched, IsBadTree, PruneAllows, PruneGives, PruneConcludes}
+use Rattle.repo_prune.specs.Pruning.{prune_task, IsUntouched, IsWanted, IsBadTree, IsBadPart, PruneAllows, PruneGives, PruneConcludes}
 use Rattle.repo_prune.proofs.ForgetRuns.{undeleted}
 use Rattle.repo_prune.proofs.PruneRuns.{throughout}
 
 pub prune_reads_first : (es : Trace) (ask : Ask) → IsPermitted PruneAllows es ask → IsReading ask → NoneDeleted es
-prune_reads_first es (Ask.List k after) h r = h tt
+prune_reads_first es (Ask.List k after) h r = (h tt).0
 prune_reads_first es (Ask.Get k n) h r = (h tt).0
-prune_reads_first es (Ask.Range pack offset len) h r = (h tt).none
+prune_reads_first es (Ask.Range pack offset len) h r = (h tt).1.none
 prune_reads_first es Ask.Ticket h r = absurd r
 prune_reads_first es (Ask.Lock row) h r = absurd r
 prune_reads_first es (Ask.Refresh token time) h r = absurd r
@@ -117,35 +121,56 @@ module _ (who : Asker) (from : Store) (fit : IsFit from) (agree : Agree (IsHeld 
       let fact : ReadFact (trace_of talk) held.fact = record { index = held.index; text = read.0; read = read.2; says = subst (λ (x : List ℕ). Says x held.fact) one held.says } in
       u.ungiven (held.fact, fact, held.of_kind, held.named ∙ b.named)
 
-module _ (who : Asker) (from : Store) (fit : IsFit from) (agree : Agree (IsHeld from.objects) (IsHeld from.objects)) where
-  own_well : (talk : Talk) (to : Store) → Obeys (prune_task who) PruneAllows PruneGives (trace_of talk) → Led from talk to → (outcome : Outcome) → PruneConcludes (trace_of talk) outcome → IsPrunedOrMemory (Some outcome)
-  own_well talk to o h (Outcome.Pruned packs bytes) own = tt
-  own_well talk to o h (Outcome.Stored name blobs bytes) own = absurd own
-  own_well talk to o h (Outcome.Complete entries) own = absurd own
-  own_well talk to o h (Outcome.Listed rows) own = absurd own
-  own_well talk to o h (Outcome.Forgotten names) own = absurd own
-  own_well talk to o h (Outcome.Clean snapshots indexes packs blobs) own = absurd own
-  own_well talk to o h (Outcome.Faults faults) own = absurd own
-  own_well talk to o h Outcome.Upgraded own = absurd own
-  own_well talk to o h (Outcome.Ended (End.BadObject Thing.Tree tree)) own = absurd (no_bad_tree who from fit agree talk to o h own.0 tree own.1)
-  own_well talk to o h (Outcome.Ended (End.BadObject Thing.Content name)) own = absurd own
-  own_well talk to o h (Outcome.Ended (End.BadObject Thing.Pack name)) own = absurd own
-  own_well talk to o h (Outcome.Ended (End.BadObject Thing.Index name)) own = absurd own
-  own_well talk to o h (Outcome.Ended (End.BadObject Thing.Snapshot name)) own = absurd own
-  own_well talk to o h (Outcome.Ended (End.Missing thing name)) own = absurd (no_unindexed who from fit agree talk to o h own.0 own.1.0 thing name own.1.2)
-  own_well talk to o h (Outcome.Ended End.Busy) own = absurd own
-  own_well talk to o h (Outcome.Ended End.Fenced) own = absurd own
-  own_well talk to o h (Outcome.Ended (End.Refused code)) own = absurd own
-  own_well talk to o h (Outcome.Ended End.BadReply) own = absurd own
-  own_well talk to o h (Outcome.Ended End.Version) own = absurd own
-  own_well talk to o h (Outcome.Ended End.DirectoryTooLarge) own = absurd own
-  own_well talk to o h (Outcome.Ended End.FileTooLarge) own = absurd own
-  own_well talk to o h (Outcome.Ended End.Abandoned) own = absurd own
+-- a fact whose blob is wanted is one that an index gives
+wanted_read : (es : Trace) (fact : Fact) → IsWanted es fact → ReadFact es fact
+wanted_read es fact wanted = (wanted.gives fact).0 wanted.copy.least.among
 
-  pub own_before : (talk : Talk) (to : Store) → Obeys (prune_task who) PruneAllows PruneGives (trace_of talk) → Led from talk to → (outcome : Outcome) → PruneConcludes (before_unlock (trace_of talk)) outcome → IsPrunedOrMemory (Some outcome)
-  own_before [] to o h outcome own = own_well [] to o h outcome own
-  own_before (turn ∷ talk) to o h outcome own =
-      ⊎_elim (λ now. own_well (turn ∷ talk) to o h outcome now) (λ before. own_well talk h.0 o.3 h.1 outcome before)
+-- where the store is sound after each exchange, no blob that was wanted came bad
+no_bad_part : (who : Asker) (from : Store) → IsFit from → (talk : Talk) (to : Store) → Obeys (prune_task who) PruneAllows PruneGives (trace_of talk) → Led from talk to → IsSoundThroughout from talk → (thing : Thing) (name : Name)
+    → IsBadPart (trace_of talk) thing name → ⊥
+no_bad_part who from fit [] to o h sound thing name bad = bad
+no_bad_part who from fit (turn ∷ talk) to o h sound thing name (fact, wanted, (is, x, said, bad), kind, called) =
+    let es : Trace = trace_of talk in
+    let e : Exchange = exchange turn.request turn.reply turn.emitted in
+    let none = none_deleted_on e es (subst DeletesNone (sym is) (λ k. refl)) wanted.none in
+    let shares : Shares from (e ∷ es) to = (known (prune_task who) PruneAllows PruneGives from fit (turn ∷ talk) to h o).shares (undeleted (e ∷ es) none) in
+    let read = wanted_read es fact wanted in
+    let listed = shares.got Kind.Index read.index read.text (inr read.read.0) in
+    let pack = shares.ranged fact.place.pack fact.place.offset fact.place.length x (inl (is, said)) in
+    part_good to.objects (sound.0 to h) read.index read.text pack.0 x fact listed read.says pack.1 pack.2 bad
+
+module _ (who : Asker) (from : Store) (fit : IsFit from) (agree : Agree (IsHeld from.objects) (IsHeld from.objects)) where
+  own_well : (talk : Talk) (to : Store) → Obeys (prune_task who) PruneAllows PruneGives (trace_of talk) → Led from talk to → IsSoundThroughout from talk → (outcome : Outcome) → PruneConcludes (trace_of talk) outcome
+      → IsPrunedOrMemory (Some outcome)
+  own_well talk to o h sound (Outcome.Pruned packs bytes) own = tt
+  own_well talk to o h sound (Outcome.Stored name blobs bytes) own = absurd own
+  own_well talk to o h sound (Outcome.Complete entries) own = absurd own
+  own_well talk to o h sound (Outcome.Listed rows) own = absurd own
+  own_well talk to o h sound (Outcome.Forgotten names) own = absurd own
+  own_well talk to o h sound (Outcome.Clean snapshots indexes packs blobs) own = absurd own
+  own_well talk to o h sound (Outcome.Faults faults) own = absurd own
+  own_well talk to o h sound Outcome.Upgraded own = absurd own
+  own_well talk to o h sound (Outcome.Ended (End.BadObject Thing.Tree tree)) own =
+      absurd (⊎_elim (λ broken. no_bad_tree who from fit agree talk to o h broken.0 tree broken.1) (λ part. no_bad_part who from fit talk to o h sound Thing.Tree tree part) own)
+  own_well talk to o h sound (Outcome.Ended (End.BadObject Thing.Content name)) own = absurd (no_bad_part who from fit talk to o h sound Thing.Content name own)
+  own_well talk to o h sound (Outcome.Ended (End.BadObject Thing.Pack name)) own = absurd (no_bad_part who from fit talk to o h sound Thing.Pack name own)
+  own_well talk to o h sound (Outcome.Ended (End.BadObject Thing.Index name)) own = absurd (no_bad_part who from fit talk to o h sound Thing.Index name own)
+  own_well talk to o h sound (Outcome.Ended (End.BadObject Thing.Snapshot name)) own = absurd (no_bad_part who from fit talk to o h sound Thing.Snapshot name own)
+  own_well talk to o h sound (Outcome.Ended (End.Missing thing name)) own = absurd (no_unindexed who from fit agree talk to o h own.0 own.1.0 thing name own.1.2)
+  own_well talk to o h sound (Outcome.Ended End.Busy) own = absurd own
+  own_well talk to o h sound (Outcome.Ended End.Fenced) own = absurd own
+  own_well talk to o h sound (Outcome.Ended (End.Refused code)) own = absurd own
+  own_well talk to o h sound (Outcome.Ended End.BadReply) own = absurd own
+  own_well talk to o h sound (Outcome.Ended End.Version) own = absurd own
+  own_well talk to o h sound (Outcome.Ended End.DirectoryTooLarge) own = absurd own
+  own_well talk to o h sound (Outcome.Ended End.FileTooLarge) own = absurd own
+  own_well talk to o h sound (Outcome.Ended End.Abandoned) own = absurd own
+
+  pub own_before : (talk : Talk) (to : Store) → Obeys (prune_task who) PruneAllows PruneGives (trace_of talk) → Led from talk to → IsSoundThroughout from talk → (outcome : Outcome) → PruneConcludes (before_unlock (trace_of talk)) outcome
+      → IsPrunedOrMemory (Some outcome)
+  own_before [] to o h sound outcome own = own_well [] to o h sound outcome own
+  own_before (turn ∷ talk) to o h sound outcome own =
+      ⊎_elim (λ now. own_well (turn ∷ talk) to o h sound outcome now) (λ before. own_well talk h.0 o.3 h.1 sound.1 outcome before)
       (either (λ es. PruneConcludes es outcome) turn.request.ask (trace_of (turn ∷ talk)) (trace_of talk) own)
 
 prune_well : (es : Trace) (outcome : Option Outcome) → ((o : Outcome) → PruneConcludes (before_unlock es) o → IsPrunedOrMemory (Some o)) → EndsWell PruneConcludes es outcome → IsPrunedOrMemory outcome
@@ -156,6 +181,7 @@ pub prune_ends : PruneEndsWell
 prune_ends who from to failed talk outcome fit versions deletes apart low ran few is =
     let h = led from talk to ran.run in
     let agree = held_agree from (IsSent (trace_of talk) None) (λ x. ⊥) apart from.objects (λ k n x p. inl (n, p)) fit.sound.named in
-    prune_well (trace_of talk) outcome (own_before who from fit agree talk to is.obeys h)
+    let sound = throughout who from fit.sound (IsSent (trace_of talk) None) apart talk is.obeys (λ ask w. w) in
+    prune_well (trace_of talk) outcome (own_before who from fit agree talk to is.obeys h sound)
     (ends_well (prune_task who) PruneAllows PruneGives PruneConcludes (λ es ask o permitted reading. undeleted es (prune_reads_first es ask permitted reading)) from fit tt versions (puts_none (prune_task who) PruneAllows (λ es token n x p. p)) (λ es token k n allowed. deletes) talk to outcome is h
-    (throughout who from fit.sound (IsSent (trace_of talk) None) apart talk is.obeys (λ ask w. w)) (calm_of failed talk low ran.cause) few)
+    sound (calm_of failed talk low ran.cause) few)

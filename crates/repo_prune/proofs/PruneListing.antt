@@ -20,7 +20,8 @@ use Rattle.repo_session.proofs.Cataloguing.{are_indexed, catalog_on, rolled_on}
 use Rattle.repo_session.proofs.Rolling.{same_self}
 use Rattle.repo_session.proofs.Deleting.{ListsNone, listing_stays}
 use Rattle.repo_session.specs.Deletions.{NoneDeleted}
-use Rattle.repo_prune.specs.Pruning.{prune_rule, prune_task, PruneAllows}
+use Rattle.repo_prune.specs.Keeping.{Row}
+use Rattle.repo_prune.specs.Pruning.{prune_rule, prune_task, IsReadInTurn, PruneAllows}
 use Rattle.repo_prune.specs.PruneStates.{Known, HasOnlyListed, HaveRead, HasTarget, AreUnlisted, ReadsSnapshots, ReadsIndexes, ListsPacks, IsListingOf, KnowsPrune, KnowsStage, IsNextStep, KnowsAsMuch, StepsFrom, known_in}
 use Rattle.repo_prune.specs.declared.prunes.Onward.{Onward}
 use Rattle.repo_prune.specs.declared.prunes.Prune.{Prune}
@@ -154,26 +155,26 @@ listing_same j (Ask.Delete t i n) h = absurd h
 listing_same j (Ask.Upgrade t) h = absurd h
 listing_same j Ask.Config h = absurd h
 
--- it may ask for pages, and for objects but packs, each once
-kind_allowed : (j : Kind) (es : Trace) (ask : Ask) → j ≢ Kind.Pack → ReadsKind j es ask → NoneDeleted es → PruneAllows es ask
-kind_allowed j es (Ask.List i after) other h none = none
-kind_allowed j es (Ask.Get i n) other h none = (none, λ is. other (sym h.0 ∙ is), h.1)
-kind_allowed j es (Ask.Range pack offset len) other h none = absurd h
-kind_allowed j es (Ask.Put t i n x) other h none = absurd h
-kind_allowed j es (Ask.Delete t i n) other h none = absurd h
-kind_allowed j es (Ask.Upgrade t) other h none = absurd h
-kind_allowed j es Ask.Ticket other h none = absurd h
-kind_allowed j es (Ask.Lock row) other h none = absurd h
-kind_allowed j es (Ask.Refresh t time) other h none = absurd h
-kind_allowed j es (Ask.Unlock t) other h none = absurd h
-kind_allowed j es Ask.Locks other h none = absurd h
-kind_allowed j es Ask.Config other h none = absurd h
+-- where those before a kind were read, it may ask for pages of it, and for its objects but packs, each once
+kind_allowed : (j : Kind) (es : Trace) (ask : Ask) → j ≢ Kind.Pack → IsReadInTurn j es → ReadsKind j es ask → NoneDeleted es → PruneAllows es ask
+kind_allowed j es (Ask.List i after) other turn h none = (none, subst (λ k. IsReadInTurn k es) (sym h) turn)
+kind_allowed j es (Ask.Get i n) other turn h none = (none, λ is. other (sym h.0 ∙ is), h.1, subst (λ k. IsReadInTurn k es) (sym h.0) turn)
+kind_allowed j es (Ask.Range pack offset len) other turn h none = absurd h
+kind_allowed j es (Ask.Put t i n x) other turn h none = absurd h
+kind_allowed j es (Ask.Delete t i n) other turn h none = absurd h
+kind_allowed j es (Ask.Upgrade t) other turn h none = absurd h
+kind_allowed j es Ask.Ticket other turn h none = absurd h
+kind_allowed j es (Ask.Lock row) other turn h none = absurd h
+kind_allowed j es (Ask.Refresh t time) other turn h none = absurd h
+kind_allowed j es (Ask.Unlock t) other turn h none = absurd h
+kind_allowed j es Ask.Locks other turn h none = absurd h
+kind_allowed j es Ask.Config other turn h none = absurd h
 
 pub snapshots_allowed : (es : Trace) (ask : Ask) → ReadsKind Kind.Snapshot es ask → NoneDeleted es → PruneAllows es ask
-snapshots_allowed es ask h none = kind_allowed Kind.Snapshot es ask (λ is. absurd (cc)) h none
+snapshots_allowed es ask h none = kind_allowed Kind.Snapshot es ask (λ is. absurd (cc)) tt h none
 
-pub indexes_allowed : (es : Trace) (ask : Ask) → ReadsKind Kind.Index es ask → NoneDeleted es → PruneAllows es ask
-indexes_allowed es ask h none = kind_allowed Kind.Index es ask (λ is. absurd (cc)) h none
+pub indexes_allowed : (es : Trace) (ask : Ask) (rows : List Row) → IsSnapshotListing es rows → ReadsKind Kind.Index es ask → NoneDeleted es → PruneAllows es ask
+indexes_allowed es ask rows snapshots h none = kind_allowed Kind.Index es ask (λ is. absurd (cc)) (rows, snapshots) h none
 
 pub listing_untouched : (j : Kind) (e : Exchange) (es : Trace) → IsListingOf j e.ask → HasOnlyListed es → HasOnlyListed (e ∷ es)
 listing_untouched j e es h listed =
@@ -385,10 +386,11 @@ pub pack_page : (j : Prune) (who : Asker) (es : Trace) (ask : Ask) → Ask.List 
 pack_page j who es ask is due h =
     let page : Ask = Ask.List Kind.Pack (last_of j.packs.names.items) in
     let same : page ≡ ask = ap (λ k. Ask.List k (last_of j.packs.names.items)) (sym h.of_packs) ∙ is in
+    let indexed = are_indexed j.catalog.roll.kind j.catalog.roll.names.items j.catalog.roll.read j.catalog.lookup es h.indexes h.all in
     record {
       work = due.work;
       may = due.may;
-      allowed = subst (PruneAllows es) same h.untouched.none_deleted;
+      allowed = subst (PruneAllows es) same (h.untouched.none_deleted, ((j.snapshots.rows.items, h.snapshots), indexed));
       knows = subst (λ a. KnowsPrune j a es) same (subst (λ a. ListsPacks j a es) (sym same) h);
     }
 

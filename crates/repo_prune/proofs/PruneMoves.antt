@@ -24,7 +24,7 @@ use Rattle.repo_session.specs.declared.jobs.Step.{Step}
 use Rattle.repo_session.specs.Askers.{Asker}
 use Rattle.repo_session.specs.Jobs.{MayAsk}
 use Rattle.repo_session.specs.Order.{IsWorking}
-use Rattle.repo_session.specs.Blobs.{range_of}
+use Rattle.repo_session.specs.Blobs.{range_of, IsBadBlob}
 use Rattle.repo_session.specs.Traces.{Each, Exchange, Trace, object_put, ReadFact}
 use Rattle.repo_session.proofs.Cataloguing.{fact_stays}
 use Rattle.repo_session.proofs.Deleting.{DeletesNone, none_deleted_on}
@@ -39,16 +39,17 @@ use Rattle.repo_writing.specs.declared.counts.Counts.{Counts}
 use Rattle.repo_writing.specs.declared.targets.Target.{Target}
 use Rattle.repo_prune.specs.Moving.{IsMoving, AwaitsBlob, MovesOn, SendsPack}
 use Rattle.repo_prune.specs.PruneStates.{Known, AreReceived, HaveCome, ArePlanned, HasPlanned, IsRepacking, KnowsMove, HasMoved, KnowsStage, IsNextStep, MovesTo}
-use Rattle.repo_prune.specs.Pruning.{prune_rule, prune_task, HasToMove, IsNeededBy, MustMoveBy, AreLastMoved, AreNextMoved, WasReceived, AreFewParts, parts_in, IsNextMove, Pair, pair_of_fact, pair_of_item}
+use Rattle.repo_prune.specs.Pruning.{prune_rule, prune_task, HasToMove, IsNeededBy, MustMoveBy, AreLastMoved, AreNextMoved, WasReceived, AreFewParts, parts_in, IsNextMove, IsWanted, Pair, pair_of_fact, pair_of_item, PruneConcludes}
 use Rattle.repo_prune.specs.declared.moving.Moved.{Moved}
 use Rattle.repo_prune.specs.declared.moving.Moving.{Moving}
 use Rattle.repo_prune.specs.declared.prunes.Stage.{Stage}
 use Rattle.repo_prune.proofs.Asides.{IsAside, read_same}
 use Rattle.repo_pack.specs.PackLayout.{IsBlobLength}
 use Rattle.repo_session.specs.declared.outcomes.End.{End}
-use Rattle.repo_session.specs.Ends.{blob_thing, IsBad, IsBadBlob, IsCause}
+use Rattle.repo_session.specs.declared.outcomes.Outcome.{Outcome}
+use Rattle.repo_session.specs.Ends.{blob_thing, Concludes}
 use Rattle.repo_prune.proofs.Pairs.{moved_once}
-use Rattle.repo_prune.proofs.PruneTrees.{read_within}
+use Rattle.repo_prune.proofs.PruneTrees.{part_ends, read_within}
 use Rattle.repo_prune.proofs.Relistings.{in_first}
 use Rattle.repo_prune.proofs.Repacking.{none_awaited, one_taken}
 use Rattle.repo_prune.proofs.Unsent.{unsent}
@@ -113,10 +114,11 @@ received_on m n i j e es moves same none h =
     received_as m n i j (e ∷ es) moves same (record { received = received_later e es (take i m.moves.items) h.received; parts = few_later e es i i more h.parts })
 
 -- over one that brings the next blob
-pub received_more : (m n : Moving) (e : Exchange) (es : Trace) (fact : Fact) (x : List ℕ) → n.moves ≡ m.moves → n.added ≡ m.asked + 1 → slice_get m.moves.items m.asked ≡ Some fact → ReadFact es fact → e.ask ≡ range_of fact → e.say ≡ Say.Bytes x → naming.name x ≡ fact.name
+pub received_more : (m n : Moving) (e : Exchange) (es : Trace) (fact : Fact) (x : List ℕ) → n.moves ≡ m.moves → n.added ≡ m.asked + 1 → slice_get m.moves.items m.asked ≡ Some fact → ReadFact es fact
+    → e.ask ≡ range_of fact → e.say ≡ Say.Bytes x → naming.name x ≡ fact.name → length x ≡ fact.place.length
     → HaveCome es m.moves.items m.asked → HaveCome (e ∷ es) n.moves.items n.added
-received_more m n e es fact x moves more at read is said named h =
-    let now : WasReceived (e ∷ es) fact.kind fact.name = (x, record { fact = fact; given = fact_stays e es fact read; of_kind = refl; replied = inl (is, said); named = named }, named) in
+received_more m n e es fact x moves more at read is said named long h =
+    let now : WasReceived (e ∷ es) fact.kind fact.name = (x, record { fact = fact; given = fact_stays e es fact read; of_kind = refl; replied = inl (is, said); long = long; named = named }, named) in
     let before : AreReceived (e ∷ es) (take m.asked m.moves.items) = received_later e es (take m.asked m.moves.items) h.received in
     let all : AreReceived (e ∷ es) (take m.asked m.moves.items ++ fact ∷ []) = λ f among. elim (Contains-append_cases (take m.asked m.moves.items) (fact ∷ []) f among) [
       | inl first ↦ before f first
@@ -181,11 +183,10 @@ module _ (k : Known) (m n : Moving) (puts : List Put) (es : Trace) (r : IsRepack
       let found = map_contains pair_of_fact (take n.added n.moves.items) (pair_of_item item) pair in
       subst (λ (p : Pair). WasReceived es p.kind p.name) found.2 (got found.0 found.1)
 
-  -- the next blob may be asked for
-  pub move_asked : (fact : Fact) → HaveCome es n.moves.items n.added → AwaitsBlob n fact (items_of puts) [] → n.listed.items ≡ m.listed.items → n.added ≡ n.asked → IsOpen n.packer.writer
-      → MayAsk prune_rule who (KnowsStage k (Stage.Moving n)) es (range_of fact)
+  -- the next blob is wanted
+  move_wanted : (fact : Fact) → HaveCome es n.moves.items n.added → AwaitsBlob n fact (items_of puts) [] → n.added ≡ n.asked → IsOpen n.packer.writer → IsWanted es fact
   unfolding next_moved
-  move_asked fact got a listed first room =
+  move_wanted fact got a first room =
       let among : Contains m.moves.items fact = subst (λ fs. Contains fs fact) same_moves (contains_got n.moves.items n.asked fact a.asked) in
       let must = (r.planned.must fact).0 among in
       let sent = items_of puts in
@@ -202,23 +203,38 @@ module _ (k : Known) (m n : Moving) (puts : List Put) (es : Trace) (r : IsRepack
       } in
       let fresh = unsent (facts_in r.kept) n.moves.items n.asked n.added fact sent n.packer.writer.items once a.asked a.before pairs in
       record {
+        none = r.none;
+        rows = k.rows;
+        snapshots = r.read.snapshots;
+        indexes = r.read.indexes;
+        texts = r.planned.texts;
+        trees = r.planned.trees;
+        facts = k.facts;
+        gives = r.read.gives;
+        copy = must.copy;
+        wanted = inr (r.planned.walked, must, λ packed. fresh (packed_one m.counts puts es r.put fact.kind fact.name packed), next);
+      }
+
+  -- the next blob may be asked for
+  pub move_asked : (fact : Fact) → HaveCome es n.moves.items n.added → AwaitsBlob n fact (items_of puts) [] → n.listed.items ≡ m.listed.items → n.added ≡ n.asked → IsOpen n.packer.writer
+      → MayAsk prune_rule who (KnowsStage k (Stage.Moving n)) es (range_of fact)
+  move_asked fact got a listed first room =
+      let among : Contains m.moves.items fact = subst (λ fs. Contains fs fact) same_moves (contains_got n.moves.items n.asked fact a.asked) in
+      let wanted = move_wanted fact got a first room in
+      record {
         work = tt;
         may = ((token, w), (fact, r.planned.moves_are fact among, refl, refl, refl));
-        allowed = record {
-          none = r.none;
-          rows = k.rows;
-          snapshots = r.read.snapshots;
-          indexes = r.read.indexes;
-          texts = r.planned.texts;
-          trees = r.planned.trees;
-          facts = k.facts;
-          gives = r.read.gives;
+        allowed = (fact, wanted, refl);
+        knows = record {
+          puts = puts;
+          sealed = [];
           fact = fact;
-          there = refl;
-          copy = must.copy;
-          wanted = inr (r.planned.walked, must, λ packed. fresh (packed_one m.counts puts es r.put fact.kind fact.name packed), next);
+          repacking = repacks_as k m n puts [] es moves target listed (counted_alone n.counts puts a.moving.counted) r;
+          awaits = a;
+          asks = refl;
+          wanted = wanted;
+          received = subst (HaveCome es n.moves.items) first got;
         };
-        knows = record { puts = puts; sealed = []; fact = fact; repacking = repacks_as k m n puts [] es moves target listed (counted_alone n.counts puts a.moving.counted) r; awaits = a; asks = refl; received = subst (HaveCome es n.moves.items) first got };
       }
 
   module _ (sealed : Sealed) (s : SendsPack (items_of puts) m.listed.items sealed n) where
@@ -364,7 +380,7 @@ none_received m es parts none = record {
 
 -- ---- a blob came
 
--- the blob of this fact was asked for
+-- the blob of this fact was asked for, and is wanted
 pub record IsAwaited (k : Known) (m : Moving) (fact : Fact) (ask : Ask) (es : Trace) : Type 0 where
   pub puts : List Put
   pub sealed : List Item
@@ -372,6 +388,7 @@ pub record IsAwaited (k : Known) (m : Moving) (fact : Fact) (ask : Ask) (es : Tr
   pub awaits : AwaitsBlob m fact (items_of puts) sealed
   pub asks : ask ≡ range_of fact
   pub read : ReadFact es fact
+  pub wanted : IsWanted es fact
   pub received : HaveCome es m.moves.items m.asked
 
 pub blob_known : (k : Known) (m : Moving) (fact : Fact) (ask : Ask) (es : Trace) → Some fact ≡ slice_get m.moves.items m.asked → KnowsMove k m ask es → IsAwaited k m fact ask es
@@ -385,14 +402,14 @@ blob_known k m fact ask es at h =
       awaits = a;
       asks = h.asks ∙ ap range_of same;
       read = h.repacking.planned.moves_are fact (contains_got m.moves.items m.asked fact a.asked);
+      wanted = subst (IsWanted es) same h.wanted;
       received = h.received;
     }
 
 -- it isn't what the fact promises
-pub bad_range : (known : ℕ) (e : Exchange) (es : Trace) (fact : Fact) (x : List ℕ) → e.ask ≡ range_of fact → e.say ≡ Say.Bytes x → ReadFact es fact → IsBadBlob fact x → IsCause known (e ∷ es) (End.BadObject (blob_thing fact.kind) fact.name)
-bad_range known e es fact x is said read bad =
-    let at : IsBad known (e ∷ es) (range_of fact) e.say (blob_thing fact.kind) fact.name = (x, fact, said, fact_stays e es fact read, refl, refl, refl, refl, refl, bad) in
-    inl (subst (λ a. IsBad known (e ∷ es) a e.say (blob_thing fact.kind) fact.name) (sym is) at)
+pub bad_range : (known : ℕ) (e : Exchange) (es : Trace) (fact : Fact) (x : List ℕ) → e.ask ≡ range_of fact → e.say ≡ Say.Bytes x → IsWanted es fact → IsBadBlob fact x
+    → Concludes known PruneConcludes (e ∷ es) (Outcome.Ended (End.BadObject (blob_thing fact.kind) fact.name))
+bad_range known e es fact x is said wanted bad = inr (part_ends (e ∷ es) (blob_thing fact.kind) fact.name (fact, wanted, (is, x, said, bad), refl, refl))
 
 read_length : (es : Trace) (fact : Fact) → ReadFact es fact → IsBlobLength fact.place.length
 read_length es fact read = (read_within es fact read).blob

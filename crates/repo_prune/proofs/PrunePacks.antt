@@ -245,6 +245,7 @@ module _ (k : Known) (r s : Relisting) (es : Trace) (h : MayList k r es) where
           facts = k.facts;
           gives = h.packed.read.gives;
           lists = record { packs = p.waiting; reads = p.reads; some = p.some; each = λ listed has. h.packed.each listed (among listed has) };
+          written = p.written;
           few = p.few;
           needed = waits_needed k r es h s.listed p.waiting next;
           once = waits_once k r es h s.listed p.waiting next;

@@ -30,7 +30,7 @@ use Rattle.repo_session.specs.declared.outcomes.Outcome.{Outcome}
 use Rattle.repo_session.specs.Askers.{Asker}
 use Rattle.repo_session.specs.Blobs.{range_of}
 use Rattle.repo_session.specs.Catalogs.{IsBlobNowhere}
-use Rattle.repo_session.specs.Ends.{blob_thing, Concludes, IsBad}
+use Rattle.repo_session.specs.Ends.{blob_thing, Concludes}
 use Rattle.repo_session.specs.Jobs.{MayAsk}
 use Rattle.repo_session.specs.Listings.{IsSnapshotListing, IsReadRow}
 use Rattle.repo_session.specs.Order.{IsWorking}
@@ -56,7 +56,7 @@ use Rattle.repo_writing.proofs.PutLemmas.{each_contained}
 use Rattle.repo_prune.specs.inner.Deciding.{IsPlanned}
 use Rattle.repo_prune.specs.Keeping.{Row}
 use Rattle.repo_prune.specs.PruneStates.{Known, HasOnlyListed, HaveRead, IsWalkOver, HasWalked, ArePlanned, KnowsStage}
-use Rattle.repo_prune.specs.Pruning.{IsUntouched, AreFewParts, parts_in, parts_asked, prune_rule, prune_task, IsNeededBy, IsUsedCopyBy, MayStayBy, AreWalked, IsBadTree, PruneConcludes}
+use Rattle.repo_prune.specs.Pruning.{IsUntouched, AreFewParts, parts_in, parts_asked, prune_rule, prune_task, IsNeededBy, IsUsedCopyBy, MayStayBy, AreWalked, IsWanted, IsBadTree, IsBadPart, PruneConcludes}
 use Rattle.repo_prune.specs.Reading.{Walks, Awaits, CannotGoOn, IsPromised, TakesTree}
 use Rattle.repo_prune.specs.declared.reading.Walked.{Walked}
 use Rattle.repo_prune.proofs.Asides.{IsAside, IsNoChange, fact_same, only_listed, read_same, untouched_same}
@@ -106,31 +106,39 @@ tree_needed k es texts trees n over (follows, depth, within, leads) =
     let reach : Reach (version_by follows) (tree_blobs texts) p.top Tree n = under_reached (version_by follows) (tree_blobs texts) p.top p.path n (subst (λ d. d ≤ greatest_depth) (sym p.long) within) p.under in
     record { row = found.0; among = found.1; reaches = by_version es k.rows over.read.snapshots found.0 found.1 (λ v t. Reach v (tree_blobs texts) t Tree n) root found.2 reach }
 
+-- each part of a pack that was asked for brought a tree
+over_parts : (k : Known) (texts : List (List ℕ)) (trees : Trees) (es : Trace) → IsWalkOver k texts trees es → AreFewParts es 0
+over_parts k texts trees es over = record { trees = texts; received = over.received; apart = over.apart; few = (let few = over.parts in omega (arith, few)) }
+
+-- a tree that is to be asked for is wanted
+tree_wanted : (k : Known) (es : Trace) (texts : List (List ℕ)) (trees : Trees) (fact : Fact) → IsWalkOver k texts trees es → Awaits k.facts texts trees fact → IsWanted es fact
+tree_wanted k es texts trees fact over a =
+    let of_tree : Tree ≡ fact.kind = sym a.next.0 in
+    record {
+      none = over.untouched.none_deleted;
+      rows = k.rows;
+      snapshots = over.read.snapshots;
+      indexes = over.read.indexes;
+      texts = texts;
+      trees = record { received = over.received; one = a.walks.walk.seen.one };
+      facts = k.facts;
+      gives = over.read.gives;
+      copy = record {
+        is_used = subst (λ kind. IsNeededBy k.rows texts kind fact.name) of_tree (tree_needed k es texts trees fact.name over a.next.3);
+        least = subst (λ kind. IsLeast k.facts kind fact.name fact.place) of_tree a.next.1;
+      };
+      wanted = inl (a.next.0, λ x received same. (let seen = a.walks.walk.seen.known x (over.all x received) in a.next.2 seen.0 seen.1 seen.2 (seen.3 ∙ same)), over_parts k texts trees es over);
+    }
+
 pub tree_asked : (k : Known) (who : Asker) (token : Token) (es : Trace) (texts : List (List ℕ)) (trees : Trees) (fact : Fact) → IsWorking (prune_task who) token es → IsWalkOver k texts trees es → Awaits k.facts texts trees fact
     → MayAsk prune_rule who (KnowsStage k (Stage.Walking trees fact)) es (range_of fact)
 tree_asked k who token es texts trees fact w over a =
-    let of_tree : Tree ≡ fact.kind = sym a.next.0 in
+    let wanted = tree_wanted k es texts trees fact over a in
     record {
       work = tt;
       may = ((token, w), (fact, awaited_read k es texts trees fact over.read a, refl, refl, refl));
-      allowed = record {
-        none = over.untouched.none_deleted;
-        rows = k.rows;
-        snapshots = over.read.snapshots;
-        indexes = over.read.indexes;
-        texts = texts;
-        trees = record { received = over.received; one = a.walks.walk.seen.one };
-        facts = k.facts;
-        gives = over.read.gives;
-        fact = fact;
-        there = refl;
-        copy = record {
-          is_used = subst (λ kind. IsNeededBy k.rows texts kind fact.name) of_tree (tree_needed k es texts trees fact.name over a.next.3);
-          least = subst (λ kind. IsLeast k.facts kind fact.name fact.place) of_tree a.next.1;
-        };
-        wanted = inl (a.next.0, λ x received same. (let seen = a.walks.walk.seen.known x (over.all x received) in a.next.2 seen.0 seen.1 seen.2 (seen.3 ∙ same)));
-      };
-      knows = record { texts = texts; over = over; awaits = a; asks = refl };
+      allowed = (fact, wanted, refl);
+      knows = record { texts = texts; over = over; awaits = a; asks = refl; wanted = wanted };
     }
 
 texts_received : (es : Trace) (texts : List (List ℕ)) → ((x : List ℕ) → Contains texts x → Received es Tree x) → Grows (tree_blobs texts) (Received es)
@@ -193,7 +201,7 @@ module _ (k : Known) (es : Trace) (texts : List (List ℕ)) (roots : List Root) 
       (untouched, subst (λ t. (snapshot : Name) × Lists es Kind.Snapshot snapshot × IsUnindexed es snapshot t n) (sym h.1) u)
   cannot_go_on untouched (End.BadObject thing tree) h =
       let bad = bad_tree_there tree h.1.0 h.1.1 h.1.2.0 h.1.2.1 h.1.2.2 h.1.2.3 in
-      subst (λ t. PruneConcludes es (Outcome.Ended (End.BadObject t tree))) (sym h.0) (untouched, bad)
+      subst (λ t. PruneConcludes es (Outcome.Ended (End.BadObject t tree))) (sym h.0) (inl (untouched, bad))
   cannot_go_on untouched End.Busy h = absurd h
   cannot_go_on untouched End.Fenced h = absurd h
   cannot_go_on untouched (End.Refused code) h = absurd h
@@ -307,7 +315,7 @@ module _ (k : Known) (trees : Trees) (es : Trace) (h : HasWalked k trees es) whe
       unindexed k es h.texts trees.roots.items h.over.read h.over.roots h.over.received Content n nowhere root reached.1 reached.2
 
 pub walked_parts : (k : Known) (trees : Trees) (es : Trace) → HasWalked k trees es → AreFewParts es 0
-walked_parts k trees es h = record { trees = h.texts; received = h.over.received; apart = h.over.apart; few = (let few = h.over.parts in omega (arith, few)) }
+walked_parts k trees es h = over_parts k h.texts trees es h.over
 
 -- ---- at the begin
 
@@ -361,7 +369,7 @@ walk_more k texts trees new fact e es x over a is promised roots =
     let aside : IsAside e.ask = subst IsAside (sym is) tt in
     let same : IsNoChange e.ask = subst IsNoChange (sym is) (record { puts = λ j. refl; deletes = λ j. refl }) in
     let given = awaited_read k es texts trees fact over.read a in
-    let now : Received (e ∷ es) Tree x = record { fact = fact; given = fact_stays e es fact given; of_kind = a.next.0; replied = inl (is, promised.bytes); named = promised.named } in
+    let now : Received (e ∷ es) Tree x = record { fact = fact; given = fact_stays e es fact given; of_kind = a.next.0; replied = inl (is, promised.bytes); long = promised.long; named = promised.named } in
     record {
       read = read_same e es aside k over.read;
       untouched = untouched_same e es same over.untouched;
@@ -372,7 +380,7 @@ walk_more k texts trees new fact e es x over a is promised roots =
       ];
       all = λ y r. elim r.replied [
         | inl here ↦ Contains-append_right texts (x ∷ []) y (subst (λ z. Contains (z ∷ []) y) (bytes_same e.say y x here.1 promised.bytes) (first_contained y []))
-        | inr was ↦ Contains-append_left texts (x ∷ []) y (over.all y (record { fact = r.fact; given = fact_same e es aside r.fact r.given; of_kind = r.of_kind; replied = was; named = r.named }))
+        | inr was ↦ Contains-append_left texts (x ∷ []) y (over.all y (record { fact = r.fact; given = fact_same e es aside r.fact r.given; of_kind = r.of_kind; replied = was; long = r.long; named = r.named }))
       ];
       apart = all_pairs_push (λ (y z : List ℕ). naming.name y ≢ naming.name z) texts x over.apart (λ i d within same.
           let y : List ℕ = get_or texts i d in
@@ -381,15 +389,21 @@ walk_more k texts trees new fact e es x over a is promised roots =
       parts = (let one : parts_in e.ask ≡ 1 = ap parts_in is in let few = over.parts in omega (arith, one, few, length-append texts (x ∷ [])));
     }
 
+-- a blob that came bad ends the prune
+pub part_ends : (es : Trace) (thing : Thing) (name : Name) → IsBadPart es thing name → PruneConcludes es (Outcome.Ended (End.BadObject thing name))
+part_ends es Thing.Tree name bad = inr bad
+part_ends es Thing.Content name bad = bad
+part_ends es Thing.Pack name bad = bad
+part_ends es Thing.Index name bad = bad
+part_ends es Thing.Snapshot name bad = bad
+
 -- the tree's bytes are bad, or it can't go on
-pub tree_ended : (known : ℕ) (k : Known) (texts : List (List ℕ)) (trees new : Trees) (fact : Fact) (e : Exchange) (es : Trace) (end : End) → IsWalkOver k texts trees es → Awaits k.facts texts trees fact → e.ask ≡ range_of fact
-    → new.roots ≡ trees.roots → TakesTree k.facts texts fact e.say new (Walked.Ended end) → Concludes known PruneConcludes (e ∷ es) (Outcome.Ended end)
-tree_ended known k texts trees new fact e es end over a is roots (inl (x, said, bad, same)) =
-    let given = awaited_read k es texts trees fact over.read a in
-    let kind : blob_thing fact.kind ≡ Thing.Tree = ap blob_thing a.next.0 in
-    let at : IsBad known (e ∷ es) (range_of fact) e.say (blob_thing fact.kind) fact.name = (x, fact, said, fact_stays e es fact given, refl, refl, refl, refl, refl, bad) in
-    let there : IsBad known (e ∷ es) e.ask e.say Thing.Tree fact.name = subst (λ t. IsBad known (e ∷ es) e.ask e.say t fact.name) kind (subst (λ q. IsBad known (e ∷ es) q e.say (blob_thing fact.kind) fact.name) (sym is) at) in
-    subst (λ z. Concludes known PruneConcludes (e ∷ es) (Outcome.Ended z)) (sym same) (inl (inl there))
-tree_ended known k texts trees new fact e es end over a is roots (inr (x, promised, why)) =
+pub tree_ended : (known : ℕ) (k : Known) (texts : List (List ℕ)) (trees new : Trees) (fact : Fact) (e : Exchange) (es : Trace) (end : End) → IsWalkOver k texts trees es → Awaits k.facts texts trees fact
+    → e.ask ≡ range_of fact → IsWanted es fact → new.roots ≡ trees.roots → TakesTree k.facts texts fact e.say new (Walked.Ended end) → Concludes known PruneConcludes (e ∷ es) (Outcome.Ended end)
+tree_ended known k texts trees new fact e es end over a is wanted roots (inl (x, said, bad, same)) =
+    let kind : Thing.Tree ≡ blob_thing fact.kind = sym (ap blob_thing a.next.0) in
+    let part : IsBadPart (e ∷ es) Thing.Tree fact.name = (fact, wanted, (is, x, said, bad), kind, refl) in
+    subst (λ z. Concludes known PruneConcludes (e ∷ es) (Outcome.Ended z)) (sym same) (inr (part_ends (e ∷ es) Thing.Tree fact.name part))
+tree_ended known k texts trees new fact e es end over a is wanted roots (inr (x, promised, why)) =
     let more = walk_more k texts trees new fact e es x over a is promised roots in
     inr (cannot_go_on k (e ∷ es) (texts ++ x ∷ []) new.roots.items more.read more.roots more.received more.untouched end why)

@@ -26,7 +26,7 @@ use Rattle.repo_session.specs.Blobs.{range_of}
 use Rattle.repo_session.specs.Catalogs.{AreIndexed, Catalogs, IsAll}
 use Rattle.repo_session.specs.Deletions.{DeleteDone, NoneDeleted, names_deleted}
 use Rattle.repo_session.specs.Ends.{Concludes}
-use Rattle.repo_session.specs.Jobs.{MayAsk, StepsOn}
+use Rattle.repo_session.specs.Jobs.{HeedsVersion, MayAsk, StepsOn}
 use Rattle.repo_session.specs.Listings.{IsSnapshotListing, IsFreshRoll, KnowsSnapshots}
 use Rattle.repo_session.specs.Order.{IsWorking}
 use Rattle.repo_session.specs.Readings.{KnowsIndexes, KnowsRoll}
@@ -47,7 +47,7 @@ use Rattle.repo_writing.specs.Writing.{Put, items_of, ArePut, AreListed, ListsPa
 use Rattle.repo_writing.specs.declared.counts.Counts.{Counts}
 use Rattle.repo_prune.specs.Keeping.{Row}
 use Rattle.repo_prune.specs.Moving.{IsMoving, AwaitsBlob}
-use Rattle.repo_prune.specs.Pruning.{prune_rule, prune_task, IsUntouched, AreTrees, IsNeededBy, AreWalked, MayStayBy, MustMoveBy, AreLastMoved, IsPutOrStays, WasReceived, AreFewParts, parts_asked, AscendByName, AreCovered, IsSettled, PruneConcludes}
+use Rattle.repo_prune.specs.Pruning.{prune_rule, prune_task, IsUntouched, AreTrees, IsNeededBy, AreWalked, MayStayBy, MustMoveBy, IsWanted, AreLastMoved, IsPutOrStays, WasReceived, AreFewParts, parts_asked, AscendByName, AreCovered, IsSettled, PruneConcludes}
 use Rattle.repo_prune.specs.Reading.{Walks, Awaits, HasTaken}
 use Rattle.repo_prune.specs.Relisting.{AreListable}
 use Rattle.repo_prune.specs.declared.deleting.Deleting.{Deleting}
@@ -99,12 +99,13 @@ pub record IsWalkOver (k : Known) (texts : List (List ℕ)) (trees : Trees) (es 
   pub apart : AllPairs (λ (x y : List ℕ). naming.name x ≢ naming.name y) texts
   pub parts : parts_asked es ≤ length texts
 
--- the tree of this fact was asked for
+-- the tree of this fact was asked for, and is wanted
 pub record KnowsWalking (k : Known) (trees : Trees) (fact : Fact) (ask : Ask) (es : Trace) : Type 0 where
   pub texts : List (List ℕ)
   pub over : IsWalkOver k texts trees es
   pub awaits : Awaits k.facts texts trees fact
   pub asks : ask ≡ range_of fact
+  pub wanted : IsWanted es fact
 
 -- all trees were read
 pub record HasWalked (k : Known) (trees : Trees) (es : Trace) : Type 0 where
@@ -161,7 +162,7 @@ pub record HaveCome (es : Trace) (moves : List Fact) (count : ℕ) : Type 0 wher
   pub received : AreReceived es (take count moves)
   pub parts : AreFewParts es count
 
--- a blob was asked for, and those before it were received
+-- a blob was asked for, which is wanted, and those before it were received
 pub record KnowsMove (k : Known) (m : Moving) (ask : Ask) (es : Trace) : Type 0 where
   pub puts : List Put
   pub sealed : List Item
@@ -169,6 +170,7 @@ pub record KnowsMove (k : Known) (m : Moving) (ask : Ask) (es : Trace) : Type 0 
   pub repacking : IsRepacking k m puts [] es
   pub awaits : AwaitsBlob m fact (items_of puts) sealed
   pub asks : ask ≡ range_of fact
+  pub wanted : IsWanted es fact
   pub received : HaveCome es m.moves.items m.asked
 
 -- a pack is being put, and all blobs added so far were received
@@ -389,6 +391,10 @@ StepsFrom old token ask say step new = (who : Asker) → StepsOn prune_rule (rec
 -- where who prunes knows these versions
 abbrev pub StepsFor : Versions → Prune → Token → Ask → Say → Step → Prune → Type 0
 StepsFor versions old token ask say step new = (who : Asker) → who.versions ≡ versions → StepsOn prune_rule (record { who = who; token = token }) (KnowsPrune old) (KnowsPrune new) (silent ask say) step
+
+-- where who prunes knows these versions, a reply that brings a snapshot of another version ends the prune, for that
+abbrev pub HeedsFor : Versions → Prune → Token → Ask → Say → Step → Type 0
+HeedsFor versions old token ask say step = (who : Asker) → who.versions ≡ versions → HeedsVersion prune_rule (record { who = who; token = token }) (KnowsPrune old) (silent ask say) step
 
 -- where its reply wasn't taken, what was known is known
 abbrev pub KnowsAsMuch : Prune → Ask → Prune → Type 0

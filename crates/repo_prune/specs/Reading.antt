@@ -9,9 +9,9 @@ use Rattle.repo_wire.specs.declared.messages.Say.{Say}
 use Rattle.repo_index.specs.declared.facts.Fact.{Fact}
 use Rattle.repo_tree.specs.Parts.{Blobs}
 use Rattle.repo_tree.specs.Spelling.{greatest_depth, Reach}
-use Rattle.repo_session.specs.Blobs.{range_of}
+use Rattle.repo_session.specs.Blobs.{range_of, IsBadBlob}
 use Rattle.repo_session.specs.Catalogs.{IsBlobNowhere}
-use Rattle.repo_session.specs.Ends.{blob_thing, IsBadBlob, IsUnwelcome}
+use Rattle.repo_session.specs.Ends.{blob_thing, IsUnwelcome}
 use Rattle.repo_session.specs.Trees.{Under, IsBroken}
 use Rattle.repo_session.specs.declared.outcomes.End.{End}
 use Rattle.repo_reach.specs.Collected.{tree_blobs, version_by}

@@ -6,7 +6,7 @@ use Rattle.repo_name.specs.declared.kinds.Kind.{Kind}
 use Rattle.repo_name.specs.declared.tokens.Token.{Token}
 use Rattle.repo_pack.specs.PackLayout.{IsWithin}
 use Rattle.repo_index.specs.IndexText.{IsIndexText, facts_in}
-use Rattle.repo_index.specs.IndexWriting.{AreFew}
+use Rattle.repo_index.specs.IndexWriting.{AreFew, index_text}
 use Rattle.repo_index.specs.declared.facts.Fact.{Fact}
 use Rattle.repo_index.specs.declared.facts.PackFacts.{PackFacts}
 use Rattle.repo_wire.specs.declared.messages.Ask.{Ask}
@@ -32,12 +32,13 @@ pub record IsSameRelisting (old new : Relisting) : Type 0 where
   pub indexes : new.indexes.items ≡ old.indexes.items
   pub counts : new.counts ≡ old.counts
 
--- an index of the packs behind those that are listed is put, which has 20,000 blobs or more, and without its last pack fewer, or all packs are listed with it,
--- and 24,095 at most; and its name is noted
+-- an index of the packs behind those that are listed is put, the written text of these packs, which has 20,000 blobs or more, and without its last pack fewer,
+-- or all packs are listed with it, and 24,095 at most; and its name is noted
 pub record PutsNext (old : Relisting) (token : Token) (step : Step) (new : Relisting) : Type 0 where
   pub waiting : List PackFacts
   pub text : List ℕ
   pub reads : IsIndexText text waiting
+  pub written : text ≡ index_text waiting
   pub some : waiting ≢ []
   pub few : AreFew waiting
   pub short : length text ≤ index_limit

@@ -4,13 +4,13 @@ ghost use Rattle.std.specs.Prelude.{◌≡◌, ◌↔◌, [], List, Option, IfOk
 ghost use Rattle.repo_name.specs.declared.kinds.Kind.{Kind};
 ghost use Rattle.repo_name.specs.declared.names.Name.{Name};
 ghost use Rattle.repo_wire.specs.declared.messages.Ask.{Ask};
-ghost use Rattle.repo_session.specs.Jobs.{IsShortStep, StepsOn};
+ghost use Rattle.repo_session.specs.Jobs.{HeedsVersion, IsShortStep, StepsOn};
 ghost use Rattle.repo_session.specs.Listings.{KnowsAsMuch};
 ghost use Rattle.repo_session.specs.Traces.{silent};
 ghost use Rattle.repo_session.specs.Sessions.{who_in};
 ghost use Rattle.repo_prune.specs.declared.choices.Choice.{Choice};
 ghost use Rattle.repo_prune.specs.Forgetting.{AreChosenOf, IsNoPolicy, WouldForget, forget_rule};
-ghost use Rattle.repo_prune.specs.ForgetStates.{FitsForget, IsFreshForget, KnowsDelete, KnowsForget, ForgetBegins, ForgetGoesOn, ReadsOnByPolicy, TakesPageByNames, choice_of};
+ghost use Rattle.repo_prune.specs.ForgetStates.{FitsForget, IsFreshForget, KnowsDelete, KnowsForget, KnowsReading, ForgetBegins, ForgetGoesOn, ReadsOnByPolicy, TakesPageByNames, choice_of};
 
 use crate::choices::{Choice, ForgetError};
 use crate::picking::{chosen, would_forget};
@@ -164,10 +164,11 @@ impl Forget {
         }
     }
 
-    /// Takes the reply to a request of the reading, where a policy chooses. It fails for memory alone, and then what was
-    /// known is known.
+    /// Takes the reply to a request of the reading, where a policy chooses: a snapshot of a version that isn't known ends
+    /// it. It fails for memory alone, and then what was known is known.
     fn take_reading(&mut self, holder: &Holder, ask: &Ask, say: &Say) -> Result<Step, AllocError>
         ensures steps { IfOk result (λ step. ReadsOnByPolicy self.old holder.now ask.now say.now step self.new) }
+        ensures heeds { IfOk result (HeedsVersion (forget_rule self.old.choice) holder.now (KnowsReading self.old) (silent ask.now say.now)) }
         ensures short { IfOk result IsShortStep }
         ensures knows { OnErr result (KnowsAsMuch self.old.snapshots self.new.snapshots) }
         ensures choice { self.new.choice ≡ self.old.choice }

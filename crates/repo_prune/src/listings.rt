@@ -6,7 +6,7 @@ ghost use Rattle.repo_name.specs.declared.names.Name.{Name};
 ghost use Rattle.repo_name.specs.declared.tokens.Token.{Token};
 ghost use Rattle.repo_wire.specs.declared.messages.Ask.{Ask};
 ghost use Rattle.repo_session.specs.Jobs.{IsShortStep};
-ghost use Rattle.repo_prune.specs.PruneStates.{IsListingOf, StepsFor, StepsFrom, KnowsAsMuch};
+ghost use Rattle.repo_prune.specs.PruneStates.{IsListingOf, StepsFor, StepsFrom, HeedsFor, KnowsAsMuch};
 
 use crate::advancing::end;
 use crate::prunes::Prune;
@@ -16,8 +16,8 @@ use repo_wire::{Ask, Say};
 use std::alloc::AllocError;
 
 impl Prune {
-    /// Takes the reply to a request of the reading of snapshots, for who knows these versions. It fails for memory alone,
-    /// and then what was known is known.
+    /// Takes the reply to a request of the reading of snapshots, for who knows these versions: one of another version ends
+    /// it. It fails for memory alone, and then what was known is known.
     fn take_snapshots(
         &mut self,
         versions: Versions,
@@ -25,6 +25,7 @@ impl Prune {
         say: &Say,
     ) -> Result<Step, AllocError>
         ensures steps { IfOk result (λ step. (token : Token) → IsListingOf Kind.Snapshot ask.now → StepsFor versions self.old token ask.now say.now step self.new) }
+        ensures heeds { IfOk result (λ step. (token : Token) → IsListingOf Kind.Snapshot ask.now → HeedsFor versions self.old token ask.now say.now step) }
         ensures short { IfOk result IsShortStep }
         ensures knows { OnErr result (IsListingOf Kind.Snapshot ask.now → KnowsAsMuch self.old ask.now self.new) }
     {
@@ -86,6 +87,7 @@ impl Prune {
         say: &Say,
     ) -> Result<Step, AllocError>
         ensures steps { IfOk result (λ step. IsListingOf kind ask.now → StepsFor versions self.old token ask.now say.now step self.new) }
+        ensures heeds { IfOk result (λ step. IsListingOf kind ask.now → HeedsFor versions self.old token ask.now say.now step) }
         ensures short { IfOk result IsShortStep }
         ensures knows { OnErr result (IsListingOf kind ask.now → KnowsAsMuch self.old ask.now self.new) }
     {

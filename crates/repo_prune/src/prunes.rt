@@ -4,7 +4,7 @@ ghost use Rattle.std.specs.Prelude.{◌≡◌, [], IfOk, OnErr};
 ghost use Rattle.repo_session.specs.Jobs.{IsShortStep};
 ghost use Rattle.repo_tree.specs.ConfigText.{IsTarget};
 ghost use Rattle.repo_session.specs.Sessions.{who_in};
-ghost use Rattle.repo_prune.specs.PruneStates.{IsFreshPrune, StepsFor, KnowsAsMuch, FitsPrune};
+ghost use Rattle.repo_prune.specs.PruneStates.{IsFreshPrune, StepsFor, HeedsFor, KnowsAsMuch, FitsPrune};
 
 use crate::deleting::Deleting;
 use crate::moving::Moving;
@@ -100,6 +100,7 @@ impl Prune {
         say: &Say,
     ) -> Result<Step, AllocError>
         ensures steps { IfOk result (λ step. StepsFor versions self.old token ask.now say.now step self.new) }
+        ensures heeds { IfOk result (λ step. HeedsFor versions self.old token ask.now say.now step) }
         ensures short { IfOk result IsShortStep }
         ensures knows { OnErr result (KnowsAsMuch self.old ask.now self.new) }
     {

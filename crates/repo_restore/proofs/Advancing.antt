@@ -20,13 +20,13 @@ use Rattle.repo_session.specs.declared.outcomes.End.{End}
 use Rattle.repo_session.specs.declared.outcomes.Outcome.{Outcome}
 use Rattle.repo_session.specs.Askers.{Asker}
 use Rattle.repo_session.specs.Catalogs.{Catalogs, IsAll, IsBlobNowhere}
-use Rattle.repo_session.specs.Ends.{IsBad, IsBadBlob, Concludes, blob_thing}
+use Rattle.repo_session.specs.Ends.{Concludes, blob_thing}
 use Rattle.repo_session.specs.Jobs.{task_under, known_under, MayAsk}
-use Rattle.repo_session.specs.Blobs.{range_of}
+use Rattle.repo_session.specs.Blobs.{IsBadBlob, range_of}
 use Rattle.repo_session.specs.Order.{IsReading, IsWorking, ReadsKind, opened}
 use Rattle.repo_session.specs.Readings.{KnowsIndexes}
 use Rattle.repo_session.specs.Rebuilding.{rebuilt, Follow}
-use Rattle.repo_session.specs.Traces.{Each, Exchange, Trace, emitted_in, page_names, is_last_page, object_got, ReadFact, IsGiven}
+use Rattle.repo_session.specs.Traces.{Each, Exchange, Trace, emitted_in, page_names, is_last_page, object_got, ReadFact, IsGiven, WasAsked}
 use Rattle.repo_session.proofs.Cataloguing.{are_indexed, catalog_fresh, catalog_on}
 use Rattle.repo_session.proofs.Descending.{fact_read, received_grows, root_grows, not_given}
 use Rattle.repo_session.proofs.Holding.{opened_working}
@@ -39,7 +39,7 @@ use Rattle.repo_restore.specs.declared.walks.Turn.{Turn}
 use Rattle.repo_restore.specs.declared.walks.Walk.{Walk}
 use Rattle.repo_session.specs.Received.{Received}
 use Rattle.repo_session.specs.Trees.{HasRoot, Under, IsUnindexed}
-use Rattle.repo_restore.specs.Restoring.{HasLength, IsMissing, IsBadTree, IsForBlob, HasGoneOn, IsAskedOnce, MayGive, counted, restore_rule, RestoreAllows, RestoreConcludes, Sums}
+use Rattle.repo_restore.specs.Restoring.{HasLength, IsMissing, IsBadPart, IsBadTree, IsForBlob, HasGoneOn, IsAskedOnce, MayGive, counted, restore_rule, RestoreAllows, RestoreConcludes, Sums}
 use Rattle.repo_restore.specs.RestoreStates.{IsRefused, IsRangeOf, IsBefore, IsNewRestore, IsWalking, KnowsAtStage, KnowsRestore, RestoreTurnIs, TurnIsOnce}
 use Rattle.repo_restore.specs.Positions.{IsOwnTree, IsFurtherTree, IsNextFile}
 use Rattle.repo_restore.specs.Moves.{BlobMoves}
@@ -123,7 +123,7 @@ walk_ended : (known : ℕ) (c : Catalog) (s : Name) (version : ℕ) (root : Name
     → Concludes known (RestoreConcludes s) es (Outcome.Ended end)
 walk_ended known c s version root es (End.Missing thing name) h all found e = inr (subst (λ t. IsMissing es s t name) (sym e.1) (missing c s version root es name h all found e.0 e.2 e.3 e.4))
 walk_ended known c s version root es (End.BadObject thing tree) h all found e =
-    subst (λ t. Concludes known (RestoreConcludes s) es (Outcome.Ended (End.BadObject t tree))) (sym e.0) (inr (bad_tree c s version root es tree h found e.1 e.2))
+    subst (λ t. Concludes known (RestoreConcludes s) es (Outcome.Ended (End.BadObject t tree))) (sym e.0) (inr (inl (bad_tree c s version root es tree h found e.1 e.2)))
 walk_ended known c s version root es End.Busy h all found e = absurd e
 walk_ended known c s version root es End.Fenced h all found e = absurd e
 walk_ended known c s version root es (End.Refused code) h all found e = absurd e
@@ -136,7 +136,7 @@ walk_ended known c s version root es End.Abandoned h all found e = absurd e
 -- and a tree that was refused
 refused_concludes : (known : ℕ) (s : Name) (version : ℕ) (root : Name) (es : Trace) (end : End) → HasRoot es s version root → IsRefused es version root end → Concludes known (RestoreConcludes s) es (Outcome.Ended end)
 refused_concludes known s version root es end found r =
-    subst (λ x. Concludes known (RestoreConcludes s) es (Outcome.Ended x)) (sym r.2) (inr (record { version = version; root = root; path = r.1; found = found; leads = r.3; shallow = r.4; unfit = inl r.5 }))
+    subst (λ x. Concludes known (RestoreConcludes s) es (Outcome.Ended x)) (sym r.2) (inr (inl (record { version = version; root = root; path = r.1; found = found; leads = r.3; shallow = r.4; unfit = inl r.5 })))
 
 -- a walk's end is one that a restore may have
 pub walk_concludes : (known : ℕ) (c : Catalog) (s : Name) (version : ℕ) (root : Name) (es : Trace) (end : End) → Catalogs c true es → IsAll c → HasRoot es s version root
@@ -184,37 +184,37 @@ first_ask j who token text config new reads known =
     let S : Stage → Type 0 = λ stage. KnowsAtStage j stage ask es in
     record { work = tt; may = ((token, opened_working task token text config reads known), inr (refl, refl)); allowed = (refl, λ was. (opened_rolled Kind.Snapshot task token text).asked j.snapshot was); knows = subst S (sym new.at_start) (refl, new.none_read, indexes, before) }
 
--- what reads indexes is allowed
-pub reads_allowed : (snapshot : Name) (es : Trace) (ask : Ask) → ReadsKind Kind.Index es ask → RestoreAllows snapshot es ask
-reads_allowed snapshot es (Ask.Get Kind.Index n) h = h
-reads_allowed snapshot es (Ask.Get Kind.Pack n) h = h
-reads_allowed snapshot es (Ask.Get Kind.Snapshot n) h = absurd (cc h.0)
-reads_allowed snapshot es (Ask.List k after) h = h
-reads_allowed snapshot es (Ask.Range pack offset len) h = absurd h
-reads_allowed snapshot es Ask.Ticket h = h
-reads_allowed snapshot es (Ask.Lock row) h = h
-reads_allowed snapshot es (Ask.Refresh t time) h = h
-reads_allowed snapshot es (Ask.Unlock t) h = h
-reads_allowed snapshot es Ask.Locks h = h
-reads_allowed snapshot es (Ask.Put t k n x) h = h
-reads_allowed snapshot es (Ask.Delete t k n) h = h
-reads_allowed snapshot es Ask.Config h = h
-reads_allowed snapshot es (Ask.Upgrade t) h = h
+-- what reads indexes is allowed once the snapshot was read
+pub reads_allowed : (snapshot : Name) (es : Trace) (ask : Ask) → WasAsked es (Ask.Get Kind.Snapshot snapshot) → ReadsKind Kind.Index es ask → RestoreAllows snapshot es ask
+reads_allowed snapshot es (Ask.Get Kind.Index n) before h = (h, before)
+reads_allowed snapshot es (Ask.Get Kind.Pack n) before h = (h, before)
+reads_allowed snapshot es (Ask.Get Kind.Snapshot n) before h = absurd (cc h.0)
+reads_allowed snapshot es (Ask.List k after) before h = (h, before)
+reads_allowed snapshot es (Ask.Range pack offset len) before h = absurd h
+reads_allowed snapshot es Ask.Ticket before h = (h, before)
+reads_allowed snapshot es (Ask.Lock row) before h = (h, before)
+reads_allowed snapshot es (Ask.Refresh t time) before h = (h, before)
+reads_allowed snapshot es (Ask.Unlock t) before h = (h, before)
+reads_allowed snapshot es Ask.Locks before h = (h, before)
+reads_allowed snapshot es (Ask.Put t k n x) before h = (h, before)
+reads_allowed snapshot es (Ask.Delete t k n) before h = (h, before)
+reads_allowed snapshot es Ask.Config before h = (h, before)
+reads_allowed snapshot es (Ask.Upgrade t) before h = (h, before)
 
 -- nothing else is
 pub only_reads : (snapshot : Name) (es : Trace) (ask : Ask) → RestoreAllows snapshot es ask → IsReading ask
 only_reads snapshot es (Ask.Get k n) h = tt
 only_reads snapshot es (Ask.List k after) h = tt
 only_reads snapshot es (Ask.Range pack offset len) h = tt
-only_reads snapshot es Ask.Ticket h = absurd h
-only_reads snapshot es (Ask.Lock row) h = absurd h
-only_reads snapshot es (Ask.Refresh t time) h = absurd h
-only_reads snapshot es (Ask.Unlock t) h = absurd h
-only_reads snapshot es Ask.Locks h = absurd h
-only_reads snapshot es (Ask.Put t k n x) h = absurd h
-only_reads snapshot es (Ask.Delete t k n) h = absurd h
-only_reads snapshot es Ask.Config h = absurd h
-only_reads snapshot es (Ask.Upgrade t) h = absurd h
+only_reads snapshot es Ask.Ticket h = absurd h.0
+only_reads snapshot es (Ask.Lock row) h = absurd h.0
+only_reads snapshot es (Ask.Refresh t time) h = absurd h.0
+only_reads snapshot es (Ask.Unlock t) h = absurd h.0
+only_reads snapshot es Ask.Locks h = absurd h.0
+only_reads snapshot es (Ask.Put t k n x) h = absurd h.0
+only_reads snapshot es (Ask.Delete t k n) h = absurd h.0
+only_reads snapshot es Ask.Config h = absurd h.0
+only_reads snapshot es (Ask.Upgrade t) h = absurd h.0
 
 -- the blob that a walk waits for may be asked for
 pub waits_asks : (j : Restore) (version : ℕ) (fact : Fact) (who : Asker) (token : Token) (es : Trace) → j.stage ≡ Stage.Walk fact version → IsWorking (task_under (restore_rule j.snapshot) who) token es → (k : IsWalking j version fact es) → IsAskedOnce es version k.root fact.kind fact.name
@@ -272,7 +272,7 @@ pub record RangeTaken (j : Restore) (version : ℕ) (fact : Fact) (root : Name) 
   pub indexes : Catalogs j.catalog true (e ∷ es)
   pub given : ReadFact (e ∷ es) fact
   pub waits : WaitsForBlob j.catalog.lookup version (Received (e ∷ es)) root j.walk fact (emitted_in es)
-  pub got : naming.name bytes ≡ fact.name → Received (e ∷ es) fact.kind bytes
+  pub got : length bytes ≡ fact.place.length → naming.name bytes ≡ fact.name → Received (e ∷ es) fact.kind bytes
 
 pub range_taken : (j : Restore) (version : ℕ) (fact : Fact) (e : Exchange) (bytes : List ℕ) (es : Trace) → IsRangeOf fact e.ask → e.say ≡ Say.Bytes bytes → (k : IsWalking j version fact es) → RangeTaken j version fact k.root e bytes es
 range_taken j version fact e bytes es of said k =
@@ -283,7 +283,7 @@ range_taken j version fact e bytes es of said k =
       indexes = indexes;
       given = given;
       waits = walk_grows j.catalog.lookup version (Received es) (Received (e ∷ es)) (received_grows e es) k.root j.walk.levels.items j.walk.sent j.walk.onward j.walk.entries fact (emitted_in es) k.waits;
-      got = λ named. record { fact = fact; given = given; of_kind = refl; replied = inl (of, said); named = named };
+      got = λ long named. record { fact = fact; given = given; of_kind = refl; replied = inl (of, said); long = long; named = named };
     }
 
 -- ---- nothing is asked for again
@@ -344,6 +344,17 @@ module _ (facts : List Fact) (version : ℕ) (root : Name) (old new : Walk) (fac
   once_next came out (Turn.Complete count) is turns moves = tt
   once_next came out (Turn.Ended end) is turns moves = tt
 
--- the bytes aren't those that were promised
-pub bad_range : (known : ℕ) (fact : Fact) (ask : Ask) (say : Say) (bytes : List ℕ) (es : Trace) → IsRangeOf fact ask → say ≡ Say.Bytes bytes → ReadFact es fact → IsBadBlob fact bytes → IsBad known es ask say (blob_thing fact.kind) fact.name
-bad_range known fact ask say bytes es of said given bad = subst (λ a. IsBad known es a say (blob_thing fact.kind) fact.name) (sym of) (bytes, fact, said, given, refl, refl, refl, refl, refl, bad)
+-- ---- other bytes came
+
+-- of a part that is bad a restore may tell so, be it a tree or content
+part_concludes : (s : Name) (es : Trace) (kind : BlobKind) (name : Name) → IsBadPart es s (blob_thing kind) name → RestoreConcludes s es (Outcome.Ended (End.BadObject (blob_thing kind) name))
+part_concludes s es BlobKind.Tree name h = inr h
+part_concludes s es BlobKind.Content name h = h
+
+-- where other bytes came than those of the blob that was asked for, a restore may tell that this one is bad
+pub part_refused : (known : ℕ) (j : Restore) (version : ℕ) (fact : Fact) (e : Exchange) (bytes : List ℕ) (es : Trace) → IsRangeOf fact e.ask → e.say ≡ Say.Bytes bytes → IsWalking j version fact es → IsBadBlob fact bytes
+    → Concludes known (RestoreConcludes j.snapshot) (e ∷ es) (Outcome.Ended (End.BadObject (blob_thing fact.kind) fact.name))
+part_refused known j version fact e bytes es of said k bad =
+    let read = fact_read j.catalog es fact k.indexes k.waits.least in
+    let next = waits_next j.catalog.lookup version (Received es) k.root j.walk.levels.items j.walk.sent fact (emitted_in es) j.walk.onward j.walk.entries k.waits in
+    inr (part_concludes j.snapshot (e ∷ es) fact.kind fact.name (fact, read, (of, bytes, said, bad), refl, refl, version, k.root, k.found, next, k.once))

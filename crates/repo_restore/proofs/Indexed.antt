@@ -42,7 +42,7 @@ module _ (w : Wish) (e : Exchange) (es : Trace) (all : AreIndexed es) (o : Obeys
   no_index n is =
       let may = subst (λ a. May (restore_task w) es a) is o.0 in
       let allowed = subst (λ a. IsPermitted (RestoreAllows w.snapshot) es a) is o.1 tt in
-      again may.1 allowed.1
+      again may.1 allowed.0.1
     where
       again : MayGet (restore_task w) Kind.Index n es → ¬ WasAsked es (Ask.Get Kind.Index n) → ⊥
       again (inl lists) once = let read = all.each n lists.1 in once (was_asked es (Ask.Get Kind.Index n) (Say.Bytes read.0) read.2.0)

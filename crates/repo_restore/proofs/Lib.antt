@@ -11,6 +11,7 @@ pub mod Begins
 pub mod Moving
 pub mod Growing
 pub mod Advancing
+pub mod Heeding
 pub mod Firsts
 pub mod Nexts
 pub mod Indexed

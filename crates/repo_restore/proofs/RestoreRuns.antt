@@ -7,6 +7,7 @@ use Rattle.repo_name.specs.declared.kinds.Kind.{Kind}
 use Rattle.repo_name.specs.declared.kinds.Thing.{Thing}
 use Rattle.repo_name.specs.declared.names.Name.{Name}
 use Rattle.repo_wire.specs.declared.messages.Code.{Code}
+use Rattle.repo_wire.specs.declared.messages.Say.{Say}
 use Rattle.repo_index.specs.IndexText.{Says, fact_of}
 use Rattle.repo_index.specs.declared.facts.Fact.{Fact}
 use Rattle.repo_tree.specs.Laws.{Agree}
@@ -29,8 +30,10 @@ use Rattle.repo_session.specs.Soundness.{IsHeld, IsSound}
 use Rattle.repo_session.specs.Rebuilding.{rebuilt, Follow}
 use Rattle.repo_session.specs.Talks.{Talk, trace_of, given_in}
 use Rattle.repo_session.specs.Told.{AskedToPut}
-use Rattle.repo_session.specs.Traces.{Trace, Lists, ReadFact}
-use Rattle.repo_session.proofs.Causes.{range_length}
+use Rattle.repo_session.specs.Blobs.{range_of}
+use Rattle.repo_session.specs.Traces.{Trace, Exchanged, Lists, ReadFact}
+use Rattle.repo_session.proofs.Cataloguing.{fact_stays}
+use Rattle.repo_session.proofs.Causes.{part_good, range_length}
 use Rattle.repo_session.proofs.Concluding.{calm_of, either, ends_well, puts_none, reads_first, suits_either}
 use Rattle.repo_session.proofs.Descending.{under_grows, needed_grows, broken_grows, root_spells_at, file_spelled, needed_there, unbroken}
 use Rattle.repo_session.proofs.Enumerating.{listed_or_put}
@@ -45,7 +48,7 @@ use Rattle.repo_restore.specs.Laws.{RestoreChangesNothing, ListChangesNothing, I
 use Rattle.repo_restore.specs.Listing.{list_task, ListAllows, ListGives, ListConcludes}
 use Rattle.repo_session.specs.Received.{Received}
 use Rattle.repo_session.specs.Trees.{HasRoot, Under, IsBroken, IsUnindexed}
-use Rattle.repo_restore.specs.Restoring.{Wish, restore_task, Sums, IsUneven, IsBrokenNext, IsBadTree, RestoreAllows, RestoreGives, RestoreConcludes}
+use Rattle.repo_restore.specs.Restoring.{Wish, restore_task, Sums, IsUneven, IsBrokenNext, IsBadPart, IsBadTree, RestoreAllows, RestoreGives, RestoreConcludes}
 use Rattle.repo_restore.proofs.Firsts.{first_is_of_all}
 use Rattle.repo_restore.proofs.Advancing.{only_reads}
 use Rattle.repo_session.proofs.KindReads.{kind_reads}
@@ -205,6 +208,18 @@ module _ (w : Wish) (from : Store) (sound : IsSound from.objects) (agree : Agree
       let fact : ReadFact (trace_of talk) held.fact = record { index = held.index; text = read.0; read = read.2; says = subst (λ (x : List ℕ). Says x held.fact) one held.says } in
       u.ungiven (held.fact, fact, held.of_kind, held.named ∙ b.named)
 
+  -- here no part comes with other bytes than those of its blob
+  no_bad_part : (thing : Thing) (name : Name) (es : Trace) → es ≡ trace_of talk → IsBadPart es w.snapshot thing name → ⊥
+  no_bad_part thing name [] is b = b
+  no_bad_part thing name (e ∷ es) is b =
+      let fact = b.0 in
+      let read = subst (λ fs. ReadFact fs fact) is (fact_stays e es fact b.1) in
+      let came = b.2 in
+      let asked = subst (λ fs. Exchanged fs (range_of fact) (Say.Bytes came.1)) is (inl (came.0, came.2)) in
+      let pack = shares.ranged fact.place.pack fact.place.offset fact.place.length came.1 asked in
+      part_good from.objects sound read.index read.text pack.0 came.1 fact (first Kind.Index read.index read.text (shares.got Kind.Index read.index read.text read.read.0)) read.says
+      (first Kind.Pack fact.place.pack pack.0 pack.1) pack.2 came.3
+
   own_well : (outcome : Outcome) → RestoreConcludes w.snapshot (trace_of talk) outcome → IsCompleteOrMemory (Some outcome)
   own_well (Outcome.Complete entries) own = tt
   own_well (Outcome.Stored name blobs bytes) own = absurd own
@@ -214,11 +229,11 @@ module _ (w : Wish) (from : Store) (sound : IsSound from.objects) (agree : Agree
   own_well (Outcome.Clean snapshots indexes packs blobs) own = absurd own
   own_well (Outcome.Faults faults) own = absurd own
   own_well Outcome.Upgraded own = absurd own
-  own_well (Outcome.Ended (End.BadObject Thing.Tree tree)) own = absurd (no_bad_tree tree own)
-  own_well (Outcome.Ended (End.BadObject Thing.Content name)) own = absurd own
-  own_well (Outcome.Ended (End.BadObject Thing.Pack name)) own = absurd own
-  own_well (Outcome.Ended (End.BadObject Thing.Index name)) own = absurd own
-  own_well (Outcome.Ended (End.BadObject Thing.Snapshot name)) own = absurd own
+  own_well (Outcome.Ended (End.BadObject Thing.Tree tree)) own = absurd (⊎_elim (λ b. no_bad_tree tree b) (λ b. no_bad_part Thing.Tree tree (trace_of talk) refl b) own)
+  own_well (Outcome.Ended (End.BadObject Thing.Content name)) own = absurd (no_bad_part Thing.Content name (trace_of talk) refl own)
+  own_well (Outcome.Ended (End.BadObject Thing.Pack name)) own = absurd (no_bad_part Thing.Pack name (trace_of talk) refl own)
+  own_well (Outcome.Ended (End.BadObject Thing.Index name)) own = absurd (no_bad_part Thing.Index name (trace_of talk) refl own)
+  own_well (Outcome.Ended (End.BadObject Thing.Snapshot name)) own = absurd (no_bad_part Thing.Snapshot name (trace_of talk) refl own)
   own_well (Outcome.Ended (End.Missing thing name)) own = absurd (no_unindexed thing name own.0)
   own_well (Outcome.Ended End.Busy) own = absurd own
   own_well (Outcome.Ended End.Fenced) own = absurd own
@@ -248,7 +263,7 @@ restore_ends w from to failed talk outcome text fit versions there low ran few c
     let h = led from talk to ran.run in
     let agree = held_agree from (λ ask. ⊥) (λ x. ⊥) clash from.objects (λ k n x p. inl (n, p)) fit.sound.named in
     restore_well w (trace_of talk) outcome (own_before w from fit.sound agree talk to is.obeys h)
-    (ends_well (restore_task w) (RestoreAllows w.snapshot) (RestoreGives w.snapshot) (RestoreConcludes w.snapshot) (reads_first (restore_task w) (RestoreAllows w.snapshot) (RestoreGives w.snapshot) (λ es t k n x. x)) from fit (text, there) versions (puts_none (restore_task w) (RestoreAllows w.snapshot) (λ es t n x h. h)) (suits_either (RestoreAllows w.snapshot) from (λ es t k n x. x)) talk to outcome is h
+    (ends_well (restore_task w) (RestoreAllows w.snapshot) (RestoreGives w.snapshot) (RestoreConcludes w.snapshot) (reads_first (restore_task w) (RestoreAllows w.snapshot) (RestoreGives w.snapshot) (λ es t k n x. x.0)) from fit (text, there) versions (puts_none (restore_task w) (RestoreAllows w.snapshot) (λ es t n x h. h.0)) (suits_either (RestoreAllows w.snapshot) from (λ es t k n x. x.0)) talk to outcome is h
     (sound_throughout (restore_task w) (RestoreAllows w.snapshot) (RestoreGives w.snapshot) (restore_never w.snapshot) from talk fit.sound is.obeys) (calm_of failed talk low ran.cause) few)
 
 -- ---- what it gives out on the way

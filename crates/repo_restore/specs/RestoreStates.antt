@@ -11,12 +11,12 @@ use Rattle.repo_session.specs.declared.jobs.Step.{Step}
 use Rattle.repo_session.specs.Askers.{Holding, Asker}
 use Rattle.repo_session.specs.Catalogs.{Catalogs, IsAll}
 use Rattle.repo_session.specs.Jobs.{StepsOn, MayStep, task_under, GivesBy}
-use Rattle.repo_session.specs.Listings.{IsOfKnownVersion}
+use Rattle.repo_session.specs.Ends.{IsOfOtherVersion}
 use Rattle.repo_session.specs.Readings.{KnowsIndexes}
 use Rattle.repo_session.specs.Rebuilding.{rebuilt, AreWhole}
 use Rattle.repo_session.specs.Sessions.{FitsSession, who_in}
 use Rattle.repo_session.specs.declared.sessions.Session.{Session}
-use Rattle.repo_session.specs.Traces.{Trace, emitted_in, giving, silent, Exchange}
+use Rattle.repo_session.specs.Traces.{Trace, emitted_in, giving, Exchange}
 use Rattle.repo_session.specs.declared.versions.Versions.{Versions}
 use Rattle.repo_restore.specs.declared.restores.Restore.{Restore}
 use Rattle.repo_restore.specs.declared.restores.Stage.{Stage}
@@ -25,6 +25,8 @@ use Rattle.repo_restore.specs.declared.walks.Walk.{Walk}
 use Rattle.repo_session.specs.Received.{Received}
 use Rattle.repo_session.specs.Trees.{HasRoot, Under}
 use Rattle.repo_session.specs.declared.outcomes.End.{End}
+use Rattle.repo_session.specs.declared.outcomes.Outcome.{Outcome}
+use Rattle.repo_session.specs.Versions.{upto}
 use Rattle.repo_name.specs.declared.kinds.Thing.{Thing}
 use Rattle.repo_restore.specs.Restoring.{Wish, counted, HasGoneOn, IsAskedOnce, IsBrokenNext, restore_rule}
 use Rattle.repo_restore.specs.Walking.{WaitsForBlob, WalkEnds}
@@ -66,6 +68,7 @@ pub record IsWalking (j : Restore) (version : ℕ) (fact : Fact) (es : Trace) : 
   pub all : IsAll j.catalog
   pub waits : WaitsForBlob j.catalog.lookup version (Received es) root j.walk fact (emitted_in es)
   pub went : j.walk.onward ≡ false → HasGoneOn es
+  pub once : IsAskedOnce es version root fact.kind fact.name
 
 -- what is known at each stage where this is pending
 abbrev pub KnowsAtStage : Restore → Stage → Ask → Trace → Type 0
@@ -84,10 +87,9 @@ RestoreRepliedTo holding old ask say step new = StepsOn (restore_rule old.snapsh
 abbrev pub RestoreReplied : Restore → Ask → Say → Step → Restore → Type 0
 RestoreReplied old ask say step new = (holding : Holding) → RestoreRepliedTo holding old ask say step new
 
--- it goes on by no snapshot of a version that isn't among these
-abbrev pub GoesOnKnown : Versions → Name → Say → Step → Type 0
-GoesOnKnown versions n say (Step.Ask ask) = IsOfKnownVersion versions (silent (Ask.Get Kind.Snapshot n) say)
-GoesOnKnown versions n say step = ⊤
+-- a snapshot of a version that isn't among these ends it, for that
+abbrev pub HeedsSnapshot : Versions → Name → Say → Step → Type 0
+HeedsSnapshot versions n say step = IsOfOtherVersion (upto versions) (Ask.Get Kind.Snapshot n) say → step ≡ Step.Finish (Outcome.Ended End.Version)
 
 -- where nothing was taken, what was known is known
 abbrev pub RestoreStays : Restore → Restore → Type 0

@@ -7,9 +7,9 @@ ghost use Rattle.repo_wire.specs.declared.messages.Ask.{Ask};
 ghost use Rattle.repo_wire.specs.declared.messages.Code.{Code};
 ghost use Rattle.repo_wire.specs.declared.messages.Say.{Say};
 ghost use Rattle.repo_session.specs.declared.emissions.Emission.{Emission};
-ghost use Rattle.repo_session.specs.Ends.{IsBadBlob};
+ghost use Rattle.repo_session.specs.Blobs.{IsBadBlob};
 ghost use Rattle.repo_session.specs.Jobs.{IsShort, IsShortStep};
-ghost use Rattle.repo_restore.specs.RestoreStates.{FitsRestore, wish_of, GoesOnKnown, IsNewRestore, KnowsRestore, RestoreReplied, RestoreRepliedTo, RestoreStays, RestoreGoesOn, RestoreTakesBlob};
+ghost use Rattle.repo_restore.specs.RestoreStates.{FitsRestore, wish_of, HeedsSnapshot, IsNewRestore, KnowsRestore, RestoreReplied, RestoreRepliedTo, RestoreStays, RestoreGoesOn, RestoreTakesBlob};
 
 use crate::walks::{Turn, Walk};
 use repo_index::Fact;
@@ -104,7 +104,7 @@ impl Restore {
     fn take_snapshot(&mut self, holder: &Holder, say: &Say) -> Result<Step, AllocError>
         requires { self.old.stage ≡ Stage.Snapshot }
         ensures ok { IfOk result (λ step. (ask : Ask) → RestoreRepliedTo holder.now self.old ask say.now step self.new) }
-        ensures known { IfOk result (GoesOnKnown holder.now.who.versions self.old.snapshot say.now) }
+        ensures heeds { IfOk result (HeedsSnapshot holder.now.who.versions self.old.snapshot say.now) }
         ensures err { OnErr result (self.new ≡ self.old) }
         ensures short { IfOk result IsShortStep }
         ensures calm { (code : Code) → say.now ≡ Say.Refused code → IsOk result }

@@ -166,7 +166,7 @@ module _ (host : List ℕ) (time : ℕ) (config pack index snapshot : List ℕ) 
     )
 
     tree_received : Received all Tree (tree_text [])
-    tree_received = record { fact = fact; given = read_fact all (inr (inr (inl (refl, refl)))); of_kind = refl; replied = inr (inl (refl, refl)); named = refl }
+    tree_received = record { fact = fact; given = read_fact all (inr (inr (inl (refl, refl)))); of_kind = refl; replied = inr (inl (refl, refl)); long = refl; named = refl }
 
     given_back : HasGivenBack all ns
     given_back = record {

@@ -27,19 +27,19 @@ asks_work (Ask.Unlock token) thing name a = absurd a
 asks_work Ask.Locks thing name a = absurd a
 asks_work Ask.Config thing name a = absurd a
 
-bad_work : (known : ℕ) (es : Trace) (ask : Ask) (say : Say) (thing : Thing) (name : Name) → IsBad known es ask say thing name → IsWork ask
-bad_work known es (Ask.Get k n) say thing name a = tt
-bad_work known es (Ask.Range pack offset len) say thing name a = tt
-bad_work known es (Ask.List k after) say thing name a = tt
-bad_work known es (Ask.Put token k n x) say thing name a = tt
-bad_work known es (Ask.Delete token k n) say thing name a = tt
-bad_work known es (Ask.Upgrade token) say thing name a = tt
-bad_work known es Ask.Ticket say thing name a = absurd a
-bad_work known es (Ask.Lock row) say thing name a = absurd a
-bad_work known es (Ask.Refresh token time) say thing name a = absurd a
-bad_work known es (Ask.Unlock token) say thing name a = absurd a
-bad_work known es Ask.Locks say thing name a = absurd a
-bad_work known es Ask.Config say thing name a = absurd a
+bad_work : (known : ℕ) (ask : Ask) (say : Say) (thing : Thing) (name : Name) → IsBad known ask say thing name → IsWork ask
+bad_work known (Ask.Get k n) say thing name a = tt
+bad_work known (Ask.Range pack offset len) say thing name a = tt
+bad_work known (Ask.List k after) say thing name a = tt
+bad_work known (Ask.Put token k n x) say thing name a = tt
+bad_work known (Ask.Delete token k n) say thing name a = tt
+bad_work known (Ask.Upgrade token) say thing name a = tt
+bad_work known Ask.Ticket say thing name a = absurd a
+bad_work known (Ask.Lock row) say thing name a = absurd a
+bad_work known (Ask.Refresh token time) say thing name a = absurd a
+bad_work known (Ask.Unlock token) say thing name a = absurd a
+bad_work known Ask.Locks say thing name a = absurd a
+bad_work known Ask.Config say thing name a = absurd a
 
 part_work : (ask : Ask) → AsksPart ask → IsWork ask
 part_work (Ask.Range pack offset len) a = tt
@@ -56,19 +56,19 @@ part_work Ask.Locks a = absurd a
 part_work Ask.Config a = absurd a
 
 -- what is bad came
-bad_came : (known : ℕ) (es : Trace) (ask : Ask) (say : Say) (thing : Thing) (name : Name) → IsBad known es ask say thing name → IsUnwelcome ask say → ⊥
-bad_came known es (Ask.Get k n) say thing name a u = subst (λ s. IsUnwelcome (Ask.Get k n) s) a.1 u tt
-bad_came known es (Ask.Range pack offset len) say thing name a u = subst (λ s. IsUnwelcome (Ask.Range pack offset len) s) a.2 u tt
-bad_came known es (Ask.List k after) say thing name a u = a
-bad_came known es (Ask.Put token k n x) say thing name a u = a
-bad_came known es (Ask.Delete token k n) say thing name a u = a
-bad_came known es (Ask.Upgrade token) say thing name a u = a
-bad_came known es Ask.Ticket say thing name a u = a
-bad_came known es (Ask.Lock row) say thing name a u = a
-bad_came known es (Ask.Refresh token time) say thing name a u = a
-bad_came known es (Ask.Unlock token) say thing name a u = a
-bad_came known es Ask.Locks say thing name a u = a
-bad_came known es Ask.Config say thing name a u = a
+bad_came : (known : ℕ) (ask : Ask) (say : Say) (thing : Thing) (name : Name) → IsBad known ask say thing name → IsUnwelcome ask say → ⊥
+bad_came known (Ask.Get k n) say thing name a u = subst (λ s. IsUnwelcome (Ask.Get k n) s) a.1 u tt
+bad_came known (Ask.Range pack offset len) say thing name a u = a
+bad_came known (Ask.List k after) say thing name a u = a
+bad_came known (Ask.Put token k n x) say thing name a u = a
+bad_came known (Ask.Delete token k n) say thing name a u = a
+bad_came known (Ask.Upgrade token) say thing name a u = a
+bad_came known Ask.Ticket say thing name a u = a
+bad_came known (Ask.Lock row) say thing name a u = a
+bad_came known (Ask.Refresh token time) say thing name a u = a
+bad_came known (Ask.Unlock token) say thing name a u = a
+bad_came known Ask.Locks say thing name a u = a
+bad_came known Ask.Config say thing name a u = a
 
 -- that a thing isn't there, or doesn't reach so far, tells a fault
 missing_tells : (ask : Ask) (say : Say) (thing : Thing) (name : Name) → AsksFor ask thing name → say ≡ Say.Refused Code.Missing → TellsFault ask say
@@ -131,9 +131,9 @@ pub spent_end : (es : Trace) → IsNoFaultsEnd es (Outcome.Ended (End.Refused Co
 spent_end es = λ is. absurd (cc)
 
 -- it ends on the reply to a request of its own
-pub own_end : (known : ℕ) (e : Exchange) (es : Trace) (end : End) → ¬ IsWork e.ask → CausedBy known (e ∷ es) e.ask e.say end → IsNoFaultsEnd (e ∷ es) (Outcome.Ended end)
+pub own_end : (known : ℕ) (e : Exchange) (es : Trace) (end : End) → ¬ IsWork e.ask → CausedBy known e.ask e.say end → IsNoFaultsEnd (e ∷ es) (Outcome.Ended end)
 own_end known e es (End.Missing thing name) own caused = absurd (own (asks_work e.ask thing name caused.0))
-own_end known e es (End.BadObject thing name) own caused = absurd (own (bad_work known (e ∷ es) e.ask e.say thing name caused))
+own_end known e es (End.BadObject thing name) own caused = absurd (own (bad_work known e.ask e.say thing name caused))
 own_end known e es (End.Refused code) own caused = λ is part. own (part_work e.ask part)
 own_end known e es End.Busy own caused = tt
 own_end known e es End.Fenced own caused = tt
@@ -143,9 +143,9 @@ own_end known e es End.DirectoryTooLarge own caused = tt
 own_end known e es End.FileTooLarge own caused = tt
 own_end known e es End.Abandoned own caused = tt
 
-no_fault : (known : ℕ) (e : Exchange) (es : Trace) (end : End) → IsUnwelcome e.ask e.say → ¬ TellsFault e.ask e.say → CausedBy known (e ∷ es) e.ask e.say end → IsNoFaultsEnd (e ∷ es) (Outcome.Ended end)
+no_fault : (known : ℕ) (e : Exchange) (es : Trace) (end : End) → IsUnwelcome e.ask e.say → ¬ TellsFault e.ask e.say → CausedBy known e.ask e.say end → IsNoFaultsEnd (e ∷ es) (Outcome.Ended end)
 no_fault known e es (End.Missing thing name) unwelcome untold caused = absurd (untold (missing_tells e.ask e.say thing name caused.0 caused.1))
-no_fault known e es (End.BadObject thing name) unwelcome untold caused = absurd (bad_came known (e ∷ es) e.ask e.say thing name caused unwelcome)
+no_fault known e es (End.BadObject thing name) unwelcome untold caused = absurd (bad_came known e.ask e.say thing name caused unwelcome)
 no_fault known e es (End.Refused code) unwelcome untold caused = λ is part. untold (part_tells e.ask e.say part (caused.0 ∙ ap Say.Refused is))
 no_fault known e es End.Busy unwelcome untold caused = tt
 no_fault known e es End.Fenced unwelcome untold caused = tt
@@ -156,7 +156,7 @@ no_fault known e es End.FileTooLarge unwelcome untold caused = tt
 no_fault known e es End.Abandoned unwelcome untold caused = tt
 
 -- it ends on a reply that the job passed on
-pub passed_on : (notes : Bool) (known : ℕ) (Own : Trace → Outcome → Type 0) (e : Exchange) (es : Trace) (end : End) → MayPassOn notes e.ask e.say → CausedBy known (e ∷ es) e.ask e.say end
+pub passed_on : (notes : Bool) (known : ℕ) (Own : Trace → Outcome → Type 0) (e : Exchange) (es : Trace) (end : End) → MayPassOn notes e.ask e.say → CausedBy known e.ask e.say end
     → MayConclude known notes Own (e ∷ es) (Outcome.Ended end)
 passed_on false known Own e es end may caused = inl (inl caused)
 passed_on true known Own e es end may caused = (inl (inl caused), no_fault known e es end may.0 may.1 caused)

@@ -6,9 +6,10 @@ use Rattle.repo_wire.specs.Messages.{IsAsk, IsShortAsk}
 use Rattle.repo_tree.specs.declared.configs.Config.{Config}
 use Rattle.repo_tree.specs.ConfigText.{IsConfigText}
 use Rattle.repo_session.specs.declared.jobs.Step.{Step}
+use Rattle.repo_session.specs.declared.outcomes.End.{End}
 use Rattle.repo_session.specs.declared.outcomes.Outcome.{Outcome}
 use Rattle.repo_session.specs.Askers.{Asker, Holding}
-use Rattle.repo_session.specs.Ends.{MayConclude, MayPassOn}
+use Rattle.repo_session.specs.Ends.{IsOfOtherVersion, MayConclude, MayPassOn}
 use Rattle.repo_session.specs.Order.{Task, opened, IsWork, IsWorking, May, Obeys}
 use Rattle.repo_session.specs.Traces.{Exchange, Trace}
 use Rattle.repo_session.specs.Versions.{upto, shared}
@@ -89,6 +90,11 @@ TurnsOn rule holding Knew Knows Wants e step = (es : Trace) → IsWorking (task_
 
 abbrev pub StepsOn : Rule → Holding → (Ask → Trace → Type 0) → (Ask → Trace → Type 0) → Exchange → Step → Type 0
 StepsOn rule holding Knew Knows e step = TurnsOn rule holding Knew Knows (λ fs. ⊥) e step
+
+-- a reply that brings what is of a version that isn't known to the job and to who asks ends the job, for that
+abbrev pub HeedsVersion : Rule → Holding → (Ask → Trace → Type 0) → Exchange → Step → Type 0
+HeedsVersion rule holding Knew e step = (es : Trace) → IsWorking (task_under rule holding.who) holding.token (e ∷ es) → Obeys (task_under rule holding.who) rule.allows rule.gives es
+    → MayAsk rule holding.who Knew es e.ask → IsOfOtherVersion (known_under rule holding.who) e.ask e.say → step ≡ Step.Finish (Outcome.Ended End.Version)
 
 -- what is asked next fits a frame
 abbrev pub IsShortStep : Step → Type 0

@@ -1,5 +1,5 @@
 -- A client that has no exchange behind it waits for its ticket.
-use Rattle.std.proofs.Common.{ℕ, ◌∙◌, ◌≡◌, inl, inr, ◌++◌, ◌∷◌, [], List, Option, Some, None, true, false, refl}
+use Rattle.std.proofs.Common.{ℕ, ◌∙◌, ◌≡◌, inl, inr, ⊎_elim, ◌++◌, ◌∷◌, [], List, Option, Some, None, true, false, refl}
 use Rattle.repo_wire.specs.declared.messages.Ask.{Ask}
 use Rattle.repo_wire.specs.declared.messages.Request.{Request}
 use Rattle.repo_name.specs.declared.kinds.Thing.{Thing}
@@ -29,7 +29,7 @@ unlisted e = absurd (cc)
 
 restore_ends : (snapshot : Name) (end : End) → (rule_of (Job.Restore snapshot)).concludes [] (Outcome.Ended end) → ⊥
 restore_ends snapshot (End.Missing thing name) h = h.0.found.2.0
-restore_ends snapshot (End.BadObject Thing.Tree tree) h = h.found.2.0
+restore_ends snapshot (End.BadObject Thing.Tree tree) h = ⊎_elim (λ bad. bad.found.2.0) (λ part. part) h
 restore_ends snapshot (End.BadObject Thing.Pack tree) h = h
 restore_ends snapshot (End.BadObject Thing.Index tree) h = h
 restore_ends snapshot (End.BadObject Thing.Snapshot tree) h = h
@@ -45,7 +45,7 @@ restore_ends snapshot End.Abandoned h = h
 
 prune_ends : (end : End) → (rule_of Job.Prune).concludes [] (Outcome.Ended end) → ⊥
 prune_ends (End.Missing thing name) h = h.1.1
-prune_ends (End.BadObject Thing.Tree tree) h = h.1.among
+prune_ends (End.BadObject Thing.Tree tree) h = ⊎_elim (λ bad. bad.1.among) (λ part. part) h
 prune_ends (End.BadObject Thing.Pack tree) h = h
 prune_ends (End.BadObject Thing.Index tree) h = h
 prune_ends (End.BadObject Thing.Snapshot tree) h = h

@@ -1,10 +1,20 @@
 use Rattle.std.proofs.Common.{◌≡◌, ◌≢◌, ◌++◌, ◌∷◌, [], None, Ok, Err, length-append, refl, sym, arith, ◌∙◌}
 use Rattle.std.proofs.lemmas.Result.{err_from_is_err_and}
 use Rattle.repo_session.specs.Sessions.{ended_in}
-use Rattle.repo_backup.specs.ItemRuns.{StepGives, ItemGives, ItemsGive}
+use Rattle.repo_backup.specs.ItemRuns.{StepGives, ItemGives, ItemsGive, items_error}
 use Rattle.repo_backup.specs.declared.item_steps.ItemsError.{ItemsError}
-use Rattle.repo_backup.proofs.ItemRunning.{SoFar, goes_as, goes_then, items_left, items_next, none_left, none_read, so_far_none, so_far_ended, so_far_all, so_far_err, so_far_next, so_far_many}
+use Rattle.repo_backup.proofs.ItemRunning.{SoFar, goes_as, goes_then, items_left, items_next, none_left, none_read, so_far_none, so_far_failed, so_far_ended, so_far_all, so_far_err, so_far_next, so_far_many}
 use Rattle.repo_backup.proofs.item_steps.lockstep_items.Goals as goal
+
+pub returns-in_err-asked-clause-goes : goal.returns-in_err-asked-clause-goes
+returns-in_err-asked-clause-goes g c honest =
+    let p = err_from_is_err_and c.from_residual.result c.from_residual.ensures.1 in
+    let e = c.in_err-asked.field-0.0 in
+    let items = c.args.items.now in
+    let ended = ended_in c.answered.new.backup.session in
+    rw (p.1, p.2) (goes_as (StepGives (Err e)) (ItemsGive items (Err (items_error e)) ended) c.args.backup.now c.answered.new.backup
+    (g.S.Shelf.store c.args.shelf.now) (g.S.Shelf.failed c.args.shelf.now) (g.S.Shelf.store c.answered.new.shelf) (g.S.Shelf.failed c.answered.new.shelf)
+    (λ es now fits h. so_far_failed items e ended es now h) (c.in_err-asked.ensures.goes honest))
 
 pub loop-item-init : goal.loop-item-init
 loop-item-init g c = record {

@@ -8,14 +8,14 @@ use Rattle.repo_session.proofs.Causes.{snapshot_faultless}
 use Rattle.repo_tree.specs.SnapshotText.{SnapshotFault}
 use Rattle.repo_name.specs.declared.kinds.Kind.{Kind}
 use Rattle.repo_check.specs.Arrivals.{LooksAtSnapshot, MisreadAs}
-use Rattle.repo_check.proofs.Arriving.{with_bytes, is_answer, misnamed, absent, snapshot_misread, ok_then}
+use Rattle.repo_check.proofs.Arriving.{with_bytes, is_answer, misnamed_snapshot, absent_snapshot, snapshot_misread, ok_then}
 use Rattle.repo_check.proofs.objects.look_at_snapshot.Goals as goal
 
 pub returns-in-Misnamed : goal.returns-in-Misnamed
-returns-in-Misnamed c = misnamed Kind.Snapshot c.args.name c.args.say.now c.in-Misnamed.ensures
+returns-in-Misnamed c = misnamed_snapshot c.args.versions c.args.name c.args.say.now c.in-Misnamed.ensures
 
 pub returns-in-Absent : goal.returns-in-Absent
-returns-in-Absent c = absent Kind.Snapshot c.args.name c.args.say.now c.in-Absent.ensures
+returns-in-Absent c = absent_snapshot c.args.versions c.args.name c.args.say.now c.in-Absent.ensures
 
 pub returns-in-Ok : goal.returns-in-Ok
 returns-in-Ok c =

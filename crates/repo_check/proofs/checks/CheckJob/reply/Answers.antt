@@ -1,5 +1,6 @@
-use Rattle.std.proofs.Common.{◌∷◌, refl, sym, inl}
+use Rattle.std.proofs.Common.{◌∷◌, refl, sym, subst, inl}
 use Rattle.std.proofs.lemmas.Result.{IfOk-weaker, on_err_weaker}
+use Rattle.repo_session.specs.Ends.{IsOfOtherVersion}
 use Rattle.repo_session.specs.Traces.{silent}
 use Rattle.repo_session.specs.Versions.{upto}
 use Rattle.repo_check.specs.Checking.{check_task}
@@ -7,7 +8,7 @@ use Rattle.repo_check.specs.Surveys.{rounds_of}
 use Rattle.repo_check.specs.Walks.{walk_of}
 use Rattle.repo_check.specs.declared.checks.Check.{Check}
 use Rattle.repo_check.proofs.CheckSteps.{concludes, may_ask}
-use Rattle.repo_check.proofs.Rounding.{on_any}
+use Rattle.repo_check.proofs.Rounding.{of_any, on_any}
 use Rattle.repo_check.proofs.checks.CheckJob.reply.Goals as goal
 
 pub returns-in_err-next-clause-knows : goal.returns-in_err-next-clause-knows
@@ -46,3 +47,27 @@ pub returns-in-Away-clause-steps : goal.returns-in-Away-clause-steps
 returns-in-Away-clause-steps c = λ es w obeys asked.
     let takes = rw c.in-Away.is at c.in_ok-next.ensures.takes in
     takes (check_task c.args.holder.now.who) c.args.holder.now.token es (sym c.versions.ensures) w asked.may asked.knows
+
+pub returns-in-Ask-clause-heeds : goal.returns-in-Ask-clause-heeds
+returns-in-Ask-clause-heeds c = λ es w obeys asked other.
+    let heeds = rw c.in-Ask.is at c.in_ok-next.ensures.heeds in
+    let is = heeds asked.work (subst (λ versions. IsOfOtherVersion (upto versions) c.args.ask.now c.args.say.now) (sym c.versions.ensures) other) in
+    absurd (cc)
+
+pub returns-in-Over-clause-heeds : goal.returns-in-Over-clause-heeds
+returns-in-Over-clause-heeds c = of_any c.conclude.result _ (λ step es w obeys asked other.
+    let heeds = rw c.in-Over.is at c.in_ok-next.ensures.heeds in
+    let is = heeds asked.work (subst (λ versions. IsOfOtherVersion (upto versions) c.args.ask.now c.args.say.now) (sym c.versions.ensures) other) in
+    absurd (cc))
+
+pub returns-in-Senseless-clause-heeds : goal.returns-in-Senseless-clause-heeds
+returns-in-Senseless-clause-heeds c = λ es w obeys asked other.
+    let heeds = rw c.in-Senseless.is at c.in_ok-next.ensures.heeds in
+    let is = heeds asked.work (subst (λ versions. IsOfOtherVersion (upto versions) c.args.ask.now c.args.say.now) (sym c.versions.ensures) other) in
+    absurd (cc)
+
+pub returns-in-Away-clause-heeds : goal.returns-in-Away-clause-heeds
+returns-in-Away-clause-heeds c = λ es w obeys asked other.
+    let heeds = rw c.in-Away.is at c.in_ok-next.ensures.heeds in
+    let is = heeds asked.work (subst (λ versions. IsOfOtherVersion (upto versions) c.args.ask.now c.args.say.now) (sym c.versions.ensures) other) in
+    absurd (cc)

@@ -5,8 +5,10 @@ use Rattle.repo_check.specs.Surveys.{HasTaken, SurveyTakesBy, Surveys, TakesSurv
 use Rattle.repo_check.specs.Walks.{walk_of}
 use Rattle.repo_check.specs.declared.surveys.Next.{Next}
 use Rattle.repo_check.proofs.Arriving.{ok_then}
-use Rattle.repo_check.proofs.Rounding.{err_with}
-use Rattle.repo_check.proofs.Surveying.{other_page}
+use Rattle.repo_session.specs.Ends.{IsOfOtherVersion}
+use Rattle.repo_session.specs.Versions.{upto}
+use Rattle.repo_check.proofs.Rounding.{err_with, of_any}
+use Rattle.repo_check.proofs.Surveying.{other_page, other_work}
 use Rattle.repo_check.proofs.surveys.Survey.take.Goals as goal
 
 pub returns-in-List-clause-takes : goal.returns-in-List-clause-takes
@@ -53,3 +55,15 @@ returns-in-Range-clause-over c =
     let T : Ask → Type 0 = λ ask. HasTaken (rounds_of old) (walk_of old.walk) ask (rounds_of new) (walk_of new.walk) in
     let P : Next → Type 0 = λ next. next ≡ Next.Over → (pack : Name) (offset len : ℕ) → T (Ask.Range pack offset len) in
     ok_then P (λ next. next ≡ Next.Over → T c.args.ask.now) c.take_tree.result (λ next h over. subst (λ ask. T ask) (sym c.in-Range.is) (h over c.in-Range.pack c.in-Range.offset c.in-Range.length)) c.take_tree.ensures.over
+
+pub returns-in-List-clause-heeds : goal.returns-in-List-clause-heeds
+returns-in-List-clause-heeds c = of_any c.take_page.result _ (λ next work other. absurd (subst (λ ask. IsOfOtherVersion (upto c.args.versions) ask c.args.say.now) c.in-List.is other))
+
+pub returns-in-Get-clause-heeds : goal.returns-in-Get-clause-heeds
+returns-in-Get-clause-heeds c = rw c.in-Get.is c.take_object.ensures.heeds
+
+pub returns-in-Range-clause-heeds : goal.returns-in-Range-clause-heeds
+returns-in-Range-clause-heeds c = of_any c.take_tree.result _ (λ next work other. absurd (subst (λ ask. IsOfOtherVersion (upto c.args.versions) ask c.args.say.now) c.in-Range.is other))
+
+pub returns-in_default-clause-heeds : goal.returns-in_default-clause-heeds
+returns-in_default-clause-heeds c = λ work other. absurd (other_work (upto c.args.versions) c.args.ask.now c.args.say.now c.in_default.not-Get work other)

@@ -1,10 +1,12 @@
-use Rattle.std.proofs.Common.{◌∷◌, [], refl, subst, inl}
+use Rattle.std.proofs.Common.{◌≡◌, ◌∷◌, [], refl, subst, inl}
 use Rattle.repo_name.specs.declared.kinds.Thing.{Thing}
 use Rattle.repo_session.specs.Ends.{IsBad, IsOfOtherVersion, IsSenseless}
 use Rattle.repo_session.specs.Traces.{Exchange, silent}
 use Rattle.repo_session.specs.Versions.{upto}
+use Rattle.repo_session.specs.declared.snapshot_rolls.SnapshotReading.{SnapshotReading}
 use Rattle.repo_prune.specs.declared.forgets.Forget.{Forget}
 use Rattle.repo_prune.specs.Forgetting.{forget_task}
+use Rattle.repo_prune.proofs.Heeding.{forget_heeds}
 use Rattle.repo_prune.proofs.Choosing.{may_read, none_read, read_chosen}
 use Rattle.repo_prune.proofs.forgets.Forget.take_reading.Goals as goal
 
@@ -34,7 +36,7 @@ returns-in-Bad-clause-steps c = λ policy es w obeys asked.
     let e : Exchange = silent c.args.ask.now c.args.say.now in
     let lists = rw c.in-Bad.is at c.in_ok-next.ensures.ok in
     let bad = lists (forget_task c.args.holder.now.who) c.args.holder.now.token [] es w asked.may asked.knows.1 in
-    (inl refl, inl (inl (subst (λ versions. IsBad (upto versions) (e ∷ es) e.ask e.say Thing.Snapshot c.in-Bad.name) c.versions.ensures bad)))
+    (inl refl, inl (inl (subst (λ versions. IsBad (upto versions) e.ask e.say Thing.Snapshot c.in-Bad.name) c.versions.ensures bad)))
 
 pub returns-in-Version-clause-steps : goal.returns-in-Version-clause-steps
 returns-in-Version-clause-steps c = λ policy es w obeys asked.
@@ -52,3 +54,38 @@ pub returns-in-Unwelcome-clause-steps : goal.returns-in-Unwelcome-clause-steps
 returns-in-Unwelcome-clause-steps c = λ policy es w obeys asked.
     let lists = rw c.in-Unwelcome.is at c.in_ok-next.ensures.ok in
     lists (forget_task c.args.holder.now.who) c.args.holder.now.token [] es w asked.may asked.knows.1
+
+pub returns-in-Ask-clause-heeds : goal.returns-in-Ask-clause-heeds
+returns-in-Ask-clause-heeds c = λ es w obeys asked other.
+    let lists = rw c.in-Ask.is at c.in_ok-next.ensures.ok in
+    let old = c.args.self.now in
+    let version : SnapshotReading.Ask c.in-Ask.next ≡ SnapshotReading.Version = forget_heeds c.versions.result old c.read_on.new.self c.args.holder.now c.args.ask.now c.args.say.now _ lists c.versions.ensures es w asked other in
+    absurd (cc)
+
+pub returns-in-Ok-clause-heeds : goal.returns-in-Ok-clause-heeds
+returns-in-Ok-clause-heeds c = λ es w obeys asked other.
+    let lists = rw c.in-All.is at c.in_ok-next.ensures.ok in
+    let old = c.args.self.now in
+    let version : SnapshotReading.All ≡ SnapshotReading.Version = forget_heeds c.versions.result old c.read_on.new.self c.args.holder.now c.args.ask.now c.args.say.now _ lists c.versions.ensures es w asked other in
+    absurd (cc)
+
+pub returns-in-Bad-clause-heeds : goal.returns-in-Bad-clause-heeds
+returns-in-Bad-clause-heeds c = λ es w obeys asked other.
+    let lists = rw c.in-Bad.is at c.in_ok-next.ensures.ok in
+    let old = c.args.self.now in
+    let version : SnapshotReading.Bad c.in-Bad.name ≡ SnapshotReading.Version = forget_heeds c.versions.result old c.read_on.new.self c.args.holder.now c.args.ask.now c.args.say.now _ lists c.versions.ensures es w asked other in
+    absurd (cc)
+
+pub returns-in-Senseless-clause-heeds : goal.returns-in-Senseless-clause-heeds
+returns-in-Senseless-clause-heeds c = λ es w obeys asked other.
+    let lists = rw c.in-Senseless.is at c.in_ok-next.ensures.ok in
+    let old = c.args.self.now in
+    let version : SnapshotReading.Senseless ≡ SnapshotReading.Version = forget_heeds c.versions.result old c.read_on.new.self c.args.holder.now c.args.ask.now c.args.say.now _ lists c.versions.ensures es w asked other in
+    absurd (cc)
+
+pub returns-in-Unwelcome-clause-heeds : goal.returns-in-Unwelcome-clause-heeds
+returns-in-Unwelcome-clause-heeds c = λ es w obeys asked other.
+    let lists = rw c.in-Unwelcome.is at c.in_ok-next.ensures.ok in
+    let old = c.args.self.now in
+    let version : SnapshotReading.Unwelcome ≡ SnapshotReading.Version = forget_heeds c.versions.result old c.read_on.new.self c.args.holder.now c.args.ask.now c.args.say.now _ lists c.versions.ensures es w asked other in
+    absurd (cc)

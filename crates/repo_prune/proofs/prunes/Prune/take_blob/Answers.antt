@@ -27,6 +27,7 @@ returns-in_err-take_blob-in-Blob-clause-knows c = on_any c.from_residual.result 
       repacking = repacks_as k m c.take_blob.new.self known.puts [] es still.moves c.take_blob.ensures.target still.listed (counted_alone c.take_blob.new.self.counts known.puts still.awaits.moving.counted) known.repacking;
       awaits = still.awaits;
       asks = known.asks;
+      wanted = known.wanted;
       received = received_as m c.take_blob.new.self m.asked c.take_blob.new.self.asked es still.moves still.asked known.received;
     })
 
@@ -47,7 +48,7 @@ returns-in_ok-take_blob-in-Blob-clause-steps c = λ moving pack offset len is wh
     let repacking = repacks_range k m known.puts e es pack offset len refl known.repacking in
     let new : Prune = record { snapshots = old.snapshots; catalog = old.catalog; packs = old.packs; stage = Stage.Moving n; target = old.target; alloc = old.alloc } in
     let more = c.in_ok-take_blob-in-Blob.ensures.added (items_of known.puts) known.sealed known.awaits long in
-    let got = received_more m n e es fact c.in-Blob.bytes.now c.take_blob.ensures.moves more known.awaits.asked known.read known.asks c.in-Blob.ensures.0 c.in-Blob.ensures.1 known.received in
+    let got = received_more m n e es fact c.in-Blob.bytes.now c.take_blob.ensures.moves more known.awaits.asked known.read known.asks c.in-Blob.ensures.0 c.in-Blob.ensures.1 c.in-Blob.ensures.2 known.received in
     may_step new who e es c.move_on.result refl (goes_on k m n known.puts (e ∷ es) repacking c.take_blob.ensures.moves c.take_blob.ensures.target who c.args.token w got moved c.move_on.result other on c.move_on.ensures.on)
 
 pub returns-in-Misnamed-clause-steps : goal.returns-in-Misnamed-clause-steps
@@ -60,7 +61,7 @@ returns-in-Misnamed-clause-steps c = λ moving pack offset len is who es w obeys
     let e : Exchange = silent ask c.args.say.now in
     let known = blob_known k m fact ask es c.in-Some.ensures (subst (λ s. KnowsStage k s ask es) c.in-Moving.is asked.knows) in
     let bad = c.in-Misnamed.ensures in
-    rw c.bad_blob.ensures.end (inl refl, inl (bad_range (upto who.versions) e es fact bad.0 known.asks bad.1 known.read (inr bad.2)))
+    rw c.bad_blob.ensures.end (inl refl, bad_range (upto who.versions) e es fact bad.0 known.asks bad.1 known.wanted (inr bad.2))
 
 pub returns-in-Uneven-clause-steps : goal.returns-in-Uneven-clause-steps
 returns-in-Uneven-clause-steps c = λ moving pack offset len is who es w obeys asked.
@@ -72,4 +73,4 @@ returns-in-Uneven-clause-steps c = λ moving pack offset len is who es w obeys a
     let e : Exchange = silent ask c.args.say.now in
     let known = blob_known k m fact ask es c.in-Some.ensures (subst (λ s. KnowsStage k s ask es) c.in-Moving.is asked.knows) in
     let bad = c.in-Uneven.ensures in
-    rw c.bad_blob-in-Uneven.ensures.end (inl refl, inl (bad_range (upto who.versions) e es fact bad.0 known.asks bad.1 known.read (inl bad.3)))
+    rw c.bad_blob-in-Uneven.ensures.end (inl refl, bad_range (upto who.versions) e es fact bad.0 known.asks bad.1 known.wanted (inl bad.3))

@@ -26,6 +26,7 @@ returns-in-Ask-clause-steps c = λ token is who es w obeys asked.
     let reads = rw c.in-Ask.is at c.in_ok-next.ensures.ok in
     let due = reads (prune_task who) token [] es w asked.may h.indexes in
     let untouched = listing_untouched Kind.Index e es is h.untouched in
+    let snapshots = listing_stays e es old.snapshots.rows.items (other_lists Kind.Index Kind.Snapshot e refl is) h.snapshots in
     let next = c.in-Ask.next in
     let listing : IsListingOf Kind.Index next = index_listing c.read_on.new.self next (e ∷ es) due.knows in
     let new : Prune = record { snapshots = old.snapshots; catalog = c.read_on.new.self; packs = old.packs; stage = old.stage; target = old.target; alloc = old.alloc } in (
@@ -33,10 +34,10 @@ returns-in-Ask-clause-steps c = λ token is who es w obeys asked.
       record {
         work = due.work;
         may = due.may;
-        allowed = indexes_allowed (e ∷ es) next (due_index (prune_task who) c.read_on.new.self (e ∷ es) next due) untouched.none_deleted;
+        allowed = indexes_allowed (e ∷ es) next old.snapshots.rows.items snapshots (due_index (prune_task who) c.read_on.new.self (e ∷ es) next due) untouched.none_deleted;
         knows = indexes_back new next (e ∷ es) listing (record {
           untouched = untouched;
-          snapshots = listing_stays e es old.snapshots.rows.items (other_lists Kind.Index Kind.Snapshot e refl is) h.snapshots;
+          snapshots = snapshots;
           indexes = due.knows;
           packs = unlisted_same Kind.Index e es old.packs refl is h.packs;
           target = target_later e es old.target.bytes h.target;

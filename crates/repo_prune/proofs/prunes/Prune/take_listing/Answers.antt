@@ -17,3 +17,6 @@ returns-in-Pack-clause-steps c = IfOk-weaker c.take_page.result _ _ (λ step h i
 pub returns-in-Pack-clause-knows : goal.returns-in-Pack-clause-knows
 returns-in-Pack-clause-knows c = on_err_weaker c.take_page.result (λ h is.
     knows_listing c.args.self.now c.args.ask.now c.take_page.new.self h (subst (λ j. IsListingOf j c.args.ask.now) c.in-Pack.is is)) c.take_page.ensures.knows
+
+pub returns-in-Snapshot-clause-heeds : goal.returns-in-Snapshot-clause-heeds
+returns-in-Snapshot-clause-heeds c = IfOk-weaker c.take_snapshots.result _ _ (λ step h is. h c.args.token (subst (λ j. IsListingOf j c.args.ask.now) c.in-Snapshot.is is)) c.take_snapshots.ensures.heeds

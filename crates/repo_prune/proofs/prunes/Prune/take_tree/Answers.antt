@@ -64,6 +64,7 @@ returns-in-Done-clause-knows c = on_err_weaker c.finish_trees.result (λ again t
       over = record { read = known.over.read; untouched = known.over.untouched; roots = ap (λ (v : Vec Root Global). v.items) (a.roots ∙ c.take_tree.ensures.roots) ∙ known.over.roots; received = known.over.received; all = known.over.all; apart = known.over.apart; parts = known.over.parts };
       awaits = a.still k.facts known.texts t taken known.awaits;
       asks = known.asks;
+      wanted = known.wanted;
     } in
     let new = c.finish_trees.new.self in
     subst (λ z. KnowsStage z new.stage ask es) (sym c.finish_trees.ensures.known) (subst (λ s. KnowsStage k s ask es) (sym a.stage_is) now)) c.finish_trees.ensures.again
@@ -78,4 +79,4 @@ returns-in-Ended-clause-steps c = λ trees fact pack offset len is who es w obey
     let f = c.in-Walking.fact in
     let known = subst (λ s. KnowsStage k s ask es) c.in-Walking.is asked.knows in
     let takes = rw c.in-Ended.is at c.in_ok-next.ensures.takes in
-    rw c.end.ensures.end (inl refl, tree_ended (upto who.versions) k known.texts t c.take_tree.new.trees f e es c.in-Ended.why known.over known.awaits known.asks c.take_tree.ensures.roots (takes known.texts known.awaits))
+    rw c.end.ensures.end (inl refl, tree_ended (upto who.versions) k known.texts t c.take_tree.new.trees f e es c.in-Ended.why known.over known.awaits known.asks known.wanted c.take_tree.ensures.roots (takes known.texts known.awaits))

@@ -2,7 +2,7 @@ use Rattle.std.proofs.Common.{arith, rules, Vec, Global, ◌≡◌, ◌+◌, ◌
 use Rattle.std.proofs.lemmas.List.{length-drop}
 use Rattle.repo_name.specs.Limits.{facts_limit}
 use Rattle.repo_index.specs.IndexText.{IsIndexText, facts_in}
-use Rattle.repo_index.specs.IndexWriting.{AreLawful, AreFew}
+use Rattle.repo_index.specs.IndexWriting.{AreLawful, AreFew, index_text}
 use Rattle.repo_index.specs.declared.facts.PackFacts.{PackFacts}
 use Rattle.repo_prune.specs.Pruning.{AreCutInTime}
 use Rattle.repo_prune.specs.Relisting.{AreListable}
@@ -37,6 +37,7 @@ returns-clause-on c = λ listable.
       waiting = take count (drop r.listed r.packs.items);
       text = put.0;
       reads = subst (λ ps. IsIndexText put.0 ps) (text_is ∙ ap (take count) rest_is) put.1;
+      written = subst (λ ps. put.0 ≡ index_text ps) (text_is ∙ ap (take count) rest_is) put.4;
       some = some_taken (drop r.listed r.packs.items) count (λ none. c.cut-count.ensures.cut.some (λ empty. none (sym rest_is ∙ empty))) (omega (arith, left, below));
       few = subst (λ ps. AreFew (take count ps)) rest_is are_few;
       short = put.2;

@@ -9,6 +9,7 @@ use Rattle.repo_session.specs.Traces.{Exchange, silent}
 use Rattle.repo_session.specs.Versions.{upto}
 use Rattle.repo_session.proofs.KindReads.{due_snapshot}
 use Rattle.repo_restore.specs.Listing.{list_rule}
+use Rattle.repo_restore.proofs.Heeding.{list_other}
 use Rattle.repo_restore.proofs.listings.SnapshotListJob.reply.Goals as goal
 
 pub returns-in-Ask-clause-steps : goal.returns-in-Ask-clause-steps
@@ -29,10 +30,9 @@ returns-in-All-clause-steps c = λ es w obeys asked.
 pub returns-in-Bad-clause-steps : goal.returns-in-Bad-clause-steps
 returns-in-Bad-clause-steps c = λ es w obeys asked.
     let holding = c.args.holder.now in
-    let e : Exchange = silent c.args.ask.now c.args.say.now in
     let lists = rw c.in-Bad.is at c.in_ok-next.ensures.ok in
     let bad = lists (task_under list_rule holding.who) holding.token [] es w asked.may asked.knows in
-    (inl refl, inl (inl (subst (λ versions. IsBad (upto versions) (e ∷ es) c.args.ask.now c.args.say.now Thing.Snapshot c.in-Bad.name) c.versions.ensures bad)))
+    (inl refl, inl (inl (subst (λ versions. IsBad (upto versions) c.args.ask.now c.args.say.now Thing.Snapshot c.in-Bad.name) c.versions.ensures bad)))
 
 pub returns-in-Version-clause-steps : goal.returns-in-Version-clause-steps
 returns-in-Version-clause-steps c = λ es w obeys asked.
@@ -53,3 +53,33 @@ returns-in-Unwelcome-clause-steps c = λ es w obeys asked.
     let holding = c.args.holder.now in
     let lists = rw c.in-Unwelcome.is at c.in_ok-next.ensures.ok in
     lists (task_under list_rule holding.who) holding.token [] es w asked.may asked.knows
+
+pub returns-in-Ask-clause-heeds : goal.returns-in-Ask-clause-heeds
+returns-in-Ask-clause-heeds c = λ es w obeys asked other.
+    let is = list_other c.args.holder.now c.args.self.now c.read_on.new.self c.args.ask.now c.args.say.now c.versions.result _ c.versions.ensures c.in_ok-next.ensures.ok es w asked other in
+    let came = c.in-Ask.is in
+    absurd (cc)
+
+pub returns-in-All-clause-heeds : goal.returns-in-All-clause-heeds
+returns-in-All-clause-heeds c = λ es w obeys asked other.
+    let is = list_other c.args.holder.now c.args.self.now c.read_on.new.self c.args.ask.now c.args.say.now c.versions.result _ c.versions.ensures c.in_ok-next.ensures.ok es w asked other in
+    let came = c.in-All.is in
+    absurd (cc)
+
+pub returns-in-Bad-clause-heeds : goal.returns-in-Bad-clause-heeds
+returns-in-Bad-clause-heeds c = λ es w obeys asked other.
+    let is = list_other c.args.holder.now c.args.self.now c.read_on.new.self c.args.ask.now c.args.say.now c.versions.result _ c.versions.ensures c.in_ok-next.ensures.ok es w asked other in
+    let came = c.in-Bad.is in
+    absurd (cc)
+
+pub returns-in-Senseless-clause-heeds : goal.returns-in-Senseless-clause-heeds
+returns-in-Senseless-clause-heeds c = λ es w obeys asked other.
+    let is = list_other c.args.holder.now c.args.self.now c.read_on.new.self c.args.ask.now c.args.say.now c.versions.result _ c.versions.ensures c.in_ok-next.ensures.ok es w asked other in
+    let came = c.in-Senseless.is in
+    absurd (cc)
+
+pub returns-in-Unwelcome-clause-heeds : goal.returns-in-Unwelcome-clause-heeds
+returns-in-Unwelcome-clause-heeds c = λ es w obeys asked other.
+    let is = list_other c.args.holder.now c.args.self.now c.read_on.new.self c.args.ask.now c.args.say.now c.versions.result _ c.versions.ensures c.in_ok-next.ensures.ok es w asked other in
+    let came = c.in-Unwelcome.is in
+    absurd (cc)

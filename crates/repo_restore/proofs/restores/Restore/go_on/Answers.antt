@@ -16,7 +16,7 @@ returns-in-Ask-clause-steps c = λ who token e es w gives next.
     let fact = c.in-Ask.fact in
     let new : Restore = record { snapshot = j.snapshot; stage = Stage.Walk fact c.args.version; catalog = j.catalog; walk = j.walk; given = j.given; alloc = j.alloc } in
     let S : Ask → Type 0 = λ a. MayStep (restore_rule j.snapshot) who (KnowsRestore new) es e (Step.Ask a) in
-    let walking : IsWalking new c.args.version fact (e ∷ es) = record { root = next.root; found = next.found; indexes = next.indexes; all = next.all; waits = rw c.in-Ask.is at next.turns; went = (rw c.in-Ask.is at next.once).1 } in
+    let walking : IsWalking new c.args.version fact (e ∷ es) = record { root = next.root; found = next.found; indexes = next.indexes; all = next.all; waits = rw c.in-Ask.is at next.turns; went = (rw c.in-Ask.is at next.once).1; once = (rw c.in-Ask.is at next.once).0 } in
     subst S (sym c.range_ask.ensures.ask) (gives, waits_asks new c.args.version fact who token (e ∷ es) refl w walking (rw c.in-Ask.is at next.once).0)
 
 pub returns-in-Ended-clause-steps : goal.returns-in-Ended-clause-steps

@@ -27,11 +27,11 @@ returns-clause-ok c = λ ask named long holding es working obeys asked.
     let known = subst S c.requires asked.knows in
     let root = known.1.root in
     let taken = range_taken j c.args.version fact e x es known.0 is known.1 in
-    let turns = c.in_ok-turn.ensures.ok (e ∷ es) root (emitted_in es) taken.waits (taken.got named) named long c.new-out.ensures.items in
+    let turns = c.in_ok-turn.ensures.ok (e ∷ es) root (emitted_in es) taken.waits (taken.got long named) named long c.new-out.ensures.items in
     let gave = turn_may_give (Some fact.name) j.catalog (e ∷ es) c.args.version root walk.levels.items walk.sent walk.onward walk.entries (emitted_in es) out turn taken.indexes turns in
     let begins = turn_beginning (Some fact.name) j.catalog.lookup c.args.version (Received (e ∷ es)) root walk.levels.items walk.sent walk.onward walk.entries (emitted_in es) out turn turns in
     let gives : RestoreGives j.snapshot es e = (subst IsForBlob (sym known.0) tt, c.args.version, root, known.1.found, gave, begins) in
-    let once = once_next j.catalog.lookup c.args.version root j.walk walk fact e es x taken.waits refl named (taken.got named) known.1.went (Some fact.name) out turn refl turns c.in_ok-turn.ensures.moves in
+    let once = once_next j.catalog.lookup c.args.version root j.walk walk fact e es x taken.waits refl named (taken.got long named) known.1.went (Some fact.name) out turn refl turns c.in_ok-turn.ensures.moves in
     let next = turn_is (Some fact.name) j.catalog.lookup walk c.args.version root (e ∷ es) (emitted_in es) out turn refl (λ end r. refused_now e es c.args.version root fact.name x out end refl named refl r) turns in
     let V : Vec Emission Global → Type 0 = λ v. IsWorking (task_under rule holding.who) holding.token (giving ask (Say.Bytes x) v.items ∷ es)
     → MayStep rule holding.who (KnowsRestore c.go_on.new.self) es (giving ask (Say.Bytes x) v.items) c.go_on.result in

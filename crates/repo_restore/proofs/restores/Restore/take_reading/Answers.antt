@@ -1,7 +1,11 @@
-use Rattle.std.proofs.Common.{[], ◌∷◌, None, Vec, Global, refl, sym, ap, subst, inl, ◌∙◌}
+use Rattle.std.proofs.Common.{[], ◌∷◌, None, Vec, Global, refl, sym, ap, subst, inl, ◌∙◌, inr}
+use Rattle.repo_wire.specs.declared.messages.Ask.{Ask}
+use Rattle.repo_wire.specs.declared.messages.Say.{Say}
+use Rattle.repo_name.specs.declared.kinds.Kind.{Kind}
 use Rattle.repo_session.specs.declared.emissions.Emission.{Emission}
 use Rattle.repo_session.specs.Jobs.{task_under}
 use Rattle.repo_session.specs.Traces.{Exchange, giving}
+use Rattle.repo_session.proofs.Spoken.{was_asked}
 use Rattle.repo_restore.specs.declared.restores.Restore.{Restore}
 use Rattle.repo_restore.specs.declared.restores.Stage.{Stage}
 use Rattle.repo_restore.specs.Restoring.{restore_rule}
@@ -21,7 +25,7 @@ returns-in-Ask-clause-ok c = λ holding es w obeys asked.
     let new : Restore = record { snapshot = j.snapshot; stage = j.stage; catalog = c.read_on.new.self; walk = j.walk; given = j.given; alloc = j.alloc } in
     let N : Stage → Type 0 = λ stage. KnowsAtStage new stage c.in-Ask.next (e ∷ es) in
     let knows = subst N (sym c.requires) (reads.knows, root_grows e es j.snapshot c.args.version c.args.tree known.1, before_on j.walk j.given.items e es refl known.2) in
-    (inl known.2.none_given, record { work = reads.work; may = reads.may; allowed = reads_allowed j.snapshot (e ∷ es) c.in-Ask.next (due_index _ c.read_on.new.self (e ∷ es) c.in-Ask.next reads); knows = knows })
+    (inl known.2.none_given, record { work = reads.work; may = reads.may; allowed = reads_allowed j.snapshot (e ∷ es) c.in-Ask.next (inr (was_asked es (Ask.Get Kind.Snapshot j.snapshot) (Say.Bytes known.1.0) known.1.2.0)) (due_index _ c.read_on.new.self (e ∷ es) c.in-Ask.next reads); knows = knows })
 
 pub returns-in-All-clause-ok : goal.returns-in-All-clause-ok
 returns-in-All-clause-ok c = λ holding es w obeys asked.

@@ -5,18 +5,21 @@ use Rattle.repo_wire.specs.declared.messages.Ask.{Ask}
 use Rattle.repo_wire.specs.declared.messages.Say.{Say}
 use Rattle.repo_tree.specs.SnapshotText.{IsSnapshotText, SnapshotFault}
 use Rattle.repo_tree.specs.declared.faults.TextError.{TextError}
-use Rattle.repo_session.specs.Ends.{CausedBy, IsUnwelcome}
+use Rattle.repo_session.specs.Ends.{CausedBy, IsOfOtherVersion, IsUnwelcome}
 use Rattle.repo_session.specs.Jobs.{task_under}
-use Rattle.repo_session.specs.Listings.{IsOfKnownVersion}
-use Rattle.repo_session.specs.Traces.{Exchange, giving, silent}
+use Rattle.repo_session.specs.declared.jobs.Step.{Step}
+use Rattle.repo_session.specs.declared.outcomes.Outcome.{Outcome}
+use Rattle.repo_session.specs.Traces.{Exchange, giving}
 use Rattle.repo_session.specs.Versions.{upto}
 use Rattle.repo_session.proofs.Causes.{snapshot_faultless}
 use Rattle.repo_session.proofs.Receiving.{unwelcome_get, bad_object}
+use Rattle.repo_session.proofs.Understanding.{unwelcome_understood}
 use Rattle.repo_restore.specs.declared.restores.Stage.{Stage}
 use Rattle.repo_session.specs.Trees.{HasRoot}
 use Rattle.repo_restore.specs.Restoring.{restore_rule}
 use Rattle.repo_restore.specs.RestoreStates.{KnowsAtStage}
 use Rattle.repo_restore.proofs.Advancing.{before_on, reads_allowed, snapshot_on}
+use Rattle.repo_restore.proofs.Heeding.{snapshot_other}
 use Rattle.repo_session.proofs.KindReads.{due_index}
 use Rattle.repo_restore.proofs.restores.Restore.take_snapshot.Goals as goal
 
@@ -40,7 +43,7 @@ returns-then-not-is_named-clause-ok c = λ ask es w obeys asked.
     let n = j.snapshot in
     let N : List ℕ → Type 0 = λ y. naming.name y ≢ n in
     let other : naming.name c.as_slice-bytes.result.now ≢ n = λ h. (let yes = c.is_named.ensures.1 h in let no = c.if-not-is_named.true in absurd (cc)) in
-    let bad = bad_object (upto holding.who.versions) Kind.Snapshot ask e.say n n c.in-Bytes.bytes (e ∷ es) known.0 refl c.in-Bytes.is (inl (subst N c.as_slice-bytes.ensures other)) in
+    let bad = bad_object (upto holding.who.versions) Kind.Snapshot ask e.say n n c.in-Bytes.bytes known.0 refl c.in-Bytes.is (inl (subst N c.as_slice-bytes.ensures other)) in
     (inl known.3.none_given, inl (inl bad))
 
 pub returns-in-Ok-clause-ok : goal.returns-in-Ok-clause-ok
@@ -59,7 +62,7 @@ returns-in-Ok-clause-ok c = λ ask es w obeys asked.
     let indexes = snapshot_on j.catalog e n x false es known.0 c.in-Bytes.is known.2 in
     let due = c.page_ask.ensures.due (task_under (restore_rule n) holding.who) holding.token (e ∷ es) w known.1 indexes in
     let found : HasRoot (e ∷ es) n c.in-Ok.snapshot.version c.in-Ok.snapshot.tree = (x, c.in-Ok.snapshot, (inl (known.0, c.in-Bytes.is), named), text, refl, refl) in
-    (inl known.3.none_given, record { work = due.work; may = due.may; allowed = reads_allowed n (e ∷ es) _ (due_index _ j.catalog (e ∷ es) _ due); knows = (due.knows, found, before_on j.walk j.given.items e es refl known.3) })
+    (inl known.3.none_given, record { work = due.work; may = due.may; allowed = reads_allowed n (e ∷ es) _ (inl known.0) (due_index _ j.catalog (e ∷ es) _ due); knows = (due.knows, found, before_on j.walk j.given.items e es refl known.3) })
 
 pub returns-in_ok-end-in-Err-clause-ok : goal.returns-in_ok-end-in-Err-clause-ok
 returns-in_ok-end-in-Err-clause-ok c = λ ask es w obeys asked.
@@ -70,24 +73,56 @@ returns-in_ok-end-in-Err-clause-ok c = λ ask es w obeys asked.
     let known = subst S c.requires asked.knows in
     let n = j.snapshot in
     let end = c.in_ok-end-in-Err.end in
-    let C : List ℕ → Type 0 = λ y. CausedBy (upto holding.who.versions) (e ∷ es) (Ask.Get Kind.Snapshot n) (Say.Bytes y) end in
-    let D : Say → Type 0 = λ y. CausedBy (upto holding.who.versions) (e ∷ es) (Ask.Get Kind.Snapshot n) y end in
-    let E : Ask → Type 0 = λ a. CausedBy (upto holding.who.versions) (e ∷ es) a e.say end in
+    let C : List ℕ → Type 0 = λ y. CausedBy (upto holding.who.versions) (Ask.Get Kind.Snapshot n) (Say.Bytes y) end in
+    let D : Say → Type 0 = λ y. CausedBy (upto holding.who.versions) (Ask.Get Kind.Snapshot n) y end in
+    let E : Ask → Type 0 = λ a. CausedBy (upto holding.who.versions) a e.say end in
     let named = c.is_named.ensures.0 c.if-not-is_named.false in
     let x = c.as_slice-bytes.result.now in
     let bound : c.greatest.result ≡ upto holding.who.versions = c.greatest.ensures.greatest ∙ ap (λ versions. upto versions) c.versions.ensures in
     let fault = subst (λ (v : ℕ). SnapshotFault v x c.in-Err.error) bound c.in-Err.ensures.fault in
-    let cause = subst C c.as_slice-bytes.ensures (c.in_ok-end-in-Err.ensures holding.who.versions x (e ∷ es) named fault) in
+    let cause = subst C c.as_slice-bytes.ensures (c.in_ok-end-in-Err.ensures holding.who.versions x named fault) in
     (inl known.3.none_given, inl (inl (subst E (sym known.0) (subst D (sym c.in-Bytes.is) cause))))
 
-pub returns-in-Ok-clause-known : goal.returns-in-Ok-clause-known
-returns-in-Ok-clause-known c =
+pub returns-in_default-clause-heeds : goal.returns-in_default-clause-heeds
+returns-in_default-clause-heeds c = λ other.
+    let n = c.args.self.now.snapshot in
+    absurd (unwelcome_understood (upto c.args.holder.now.who.versions) (Ask.Get Kind.Snapshot n) c.args.say.now (unwelcome_get Kind.Snapshot n c.args.say.now c.in_default.not-Bytes) other)
+
+pub returns-then-not-is_named-clause-heeds : goal.returns-then-not-is_named-clause-heeds
+returns-then-not-is_named-clause-heeds c = λ other.
+    let n = c.args.self.now.snapshot in
+    let O : Say → Type 0 = λ say. IsOfOtherVersion (upto c.args.holder.now.who.versions) (Ask.Get Kind.Snapshot n) say in
+    let N : List ℕ → Type 0 = λ y. naming.name y ≡ n in
+    let named = subst N (sym c.as_slice-bytes.ensures) (subst O c.in-Bytes.is other).0 in
+    let yes = c.is_named.ensures.1 named in
+    let no = c.if-not-is_named.true in
+    absurd (cc)
+
+pub returns-in-Ok-clause-heeds : goal.returns-in-Ok-clause-heeds
+returns-in-Ok-clause-heeds c = λ other.
     let who = c.args.holder.now.who in
+    let known = upto who.versions in
     let read = c.in-Ok.ensures.ok in
     let x = c.as_slice-bytes.result.now in
-    let bound : c.greatest.result ≡ upto who.versions = c.greatest.ensures.greatest ∙ ap (λ versions. upto versions) c.versions.ensures in
-    let within = subst (λ (known : ℕ). c.in-Ok.snapshot.version ≤ known) bound read.1 in
-    let K : Say → Type 0 = λ say. IsOfKnownVersion who.versions (silent (Ask.Get Kind.Snapshot c.args.self.now.snapshot) say) in
-    let B : List ℕ → Type 0 = λ y. K (Say.Bytes y) in
-    let known : B x = λ other. (let q : TextError.Version ≡ TextError.Memory = snapshot_faultless (upto who.versions) x c.in-Ok.snapshot TextError.Version read.0 within other.1 in absurd (cc)) in
-    subst K (sym c.in-Bytes.is) (subst B c.as_slice-bytes.ensures known)
+    let bound : c.greatest.result ≡ known = c.greatest.ensures.greatest ∙ ap (λ versions. upto versions) c.versions.ensures in
+    let within = subst (λ (v : ℕ). c.in-Ok.snapshot.version ≤ v) bound read.1 in
+    let O : Say → Type 0 = λ say. IsOfOtherVersion known (Ask.Get Kind.Snapshot c.args.self.now.snapshot) say in
+    let F : List ℕ → Type 0 = λ y. SnapshotFault known y TextError.Version in
+    let fault = subst F (sym c.as_slice-bytes.ensures) (subst O c.in-Bytes.is other).1 in
+    let q : TextError.Version ≡ TextError.Memory = snapshot_faultless known x c.in-Ok.snapshot TextError.Version read.0 within fault in
+    absurd (cc)
+
+pub returns-in_ok-end-in-Err-clause-heeds : goal.returns-in_ok-end-in-Err-clause-heeds
+returns-in_ok-end-in-Err-clause-heeds c = λ other.
+    let who = c.args.holder.now.who in
+    let known = upto who.versions in
+    let n = c.args.self.now.snapshot in
+    let end = c.in_ok-end-in-Err.end in
+    let x = c.as_slice-bytes.result.now in
+    let named = c.is_named.ensures.0 c.if-not-is_named.false in
+    let bound : c.greatest.result ≡ known = c.greatest.ensures.greatest ∙ ap (λ versions. upto versions) c.versions.ensures in
+    let fault = subst (λ (v : ℕ). SnapshotFault v x c.in-Err.error) bound c.in-Err.ensures.fault in
+    let O : Say → Type 0 = λ say. IsOfOtherVersion known (Ask.Get Kind.Snapshot n) say in
+    let B : List ℕ → Type 0 = λ y. IsOfOtherVersion known (Ask.Get Kind.Snapshot n) (Say.Bytes y) in
+    let of : B x = subst B (sym c.as_slice-bytes.ensures) (subst O c.in-Bytes.is other) in
+    ap (λ e. Step.Finish (Outcome.Ended e)) (snapshot_other known n x end (c.in_ok-end-in-Err.ensures who.versions x named fault) of)
