@@ -88,7 +88,7 @@ module _ (task : Task) (Allows : Trace → Ask → Type 0) (Gives : Trace → Ex
     settled = h.settled;
     concluded = h.concluded;
     released = h.released;
-    understood = h.understood;
+    heeded = h.heeded;
     beside = h.beside;
     ending = h.ending;
   }

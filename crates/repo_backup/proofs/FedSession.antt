@@ -1,12 +1,13 @@
 -- A session whose job is fed an item.
-use Rattle.std.proofs.Common.{◌≡◌, ◌≢◌, ◌∷◌, [], ℕ, Option, Some, None, refl, sym, ap, subst, inl, inr, ◌∙◌}
+use Rattle.std.proofs.Common.{◌≡◌, ◌≢◌, ◌∷◌, [], ℕ, Bool, Option, Some, None, refl, sym, ap, subst, inl, inr, ◌∙◌}
 use Rattle.repo_name.specs.declared.rows.LockRow.{LockRow}
 use Rattle.repo_session.specs.Askers.{Holding}
 use Rattle.repo_session.specs.Feeds.{Fed}
 use Rattle.repo_session.specs.Askers.{Asker}
-use Rattle.repo_session.specs.Ends.{IsUnderstood}
+use Rattle.repo_session.specs.Ends.{MayFollow}
 use Rattle.repo_session.specs.Jobs.{task_under, known_under, MayGoOn}
 use Rattle.repo_session.specs.Lines.{IsSentOnLine, or_spent}
+use Rattle.repo_session.specs.Obedience.{holds_whole}
 use Rattle.repo_session.specs.Sessions.{SessionAt, SessionStands, FollowsStep}
 use Rattle.repo_session.specs.Traces.{Each, Trace, feeding}
 use Rattle.repo_session.specs.declared.jobs.Step.{Step}
@@ -14,16 +15,17 @@ use Rattle.repo_session.specs.declared.lines.Line.{Line}
 use Rattle.repo_session.specs.declared.outcomes.End.{End}
 use Rattle.repo_session.specs.declared.outcomes.Outcome.{Outcome}
 use Rattle.repo_session.specs.declared.sessions.Head.{Head}
+use Rattle.repo_session.proofs.Heeding.{follow_before}
+use Rattle.repo_session.proofs.Holding.{holds_of}
 use Rattle.repo_session.proofs.Sessioning.{wants_of, input_taken}
-use Rattle.repo_session.proofs.Understanding.{all_understood}
 use Rattle.repo_wire.specs.declared.messages.Ask.{Ask}
 use Rattle.repo_backup.specs.PieceRules.{PieceAllows, piece_rule}
 use Rattle.repo_backup.proofs.FedOn.{fed_length, fed_obeys, fed_working}
 
 -- an item leaves what was asked and said
-fed_understood : (known : ℕ) (item : Fed) (es : Trace) → Each (IsUnderstood known) es → Each (IsUnderstood known) (feeding item es)
-fed_understood known item [] all = tt
-fed_understood known item (e ∷ es) all = all
+fed_follow : (known : ℕ) (notes : Bool) (item : Fed) (es : Trace) → Each (MayFollow known notes) es → Each (MayFollow known notes) (feeding item es)
+fed_follow known notes item [] all = tt
+fed_follow known notes item (e ∷ es) all = all
 
 module _ (holding : Holding) (lock : Option LockRow) (Fresh Fresh' : Type 0) (Knows Knows' : Ask → Trace → Type 0) (Wants Wants' : Trace → Type 0) where
   -- the item was taken, and the session follows the step that its job made of it
@@ -32,9 +34,12 @@ module _ (holding : Holding) (lock : Option LockRow) (Fresh Fresh' : Type 0) (Kn
       → SessionAt piece_rule holding lock Fresh' Knows' Wants' new.line (feeding item es)
   fed_session step end old new item es is next none at may follows =
       let w = wants_of piece_rule holding lock Fresh Knows Wants old.line es next none at in
+      let task = task_under piece_rule holding.who in
+      let known = known_under piece_rule holding.who in
+      let whole = holds_whole task holding.token es (holds_of task holding.token es w.working) in
       input_taken piece_rule holding lock Fresh' Knows' Wants' step end old new (feeding item es) is at.instance none (w.counted ∙ sym (fed_length item es))
-      (fed_obeys (task_under piece_rule holding.who) PieceAllows item es at.obeys)
-      (fed_understood (known_under piece_rule holding.who) item es (all_understood (known_under piece_rule holding.who) old.line.outcome es none at.understood)) (fed_working (task_under piece_rule holding.who) holding.token item es w.may.indexes.listed.complete w.working) may follows
+      (fed_obeys task PieceAllows item es at.obeys) (fed_follow known piece_rule.notes item es (follow_before known piece_rule.notes old.line.outcome es none whole at.heeded))
+      (fed_working task holding.token item es w.may.indexes.listed.complete w.working) may follows
 
   -- the item was refused, and the job knows what it knew
   pub refused_session : (old : Head) (es : Trace) → old.line.next ≡ None → old.line.outcome ≡ None → ((fs : Trace) → Wants fs → Wants' fs)
@@ -44,7 +49,7 @@ module _ (holding : Holding) (lock : Option LockRow) (Fresh Fresh' : Type 0) (Kn
       record {
         instance = at.instance;
         obeys = at.obeys;
-        understood = at.understood;
+        heeded = at.heeded;
         stands = subst (λ n. SessionStands piece_rule holding lock Fresh' Knows' Wants' old.line n es) (sym next) (inr (record { working = w.working; none = none; counted = w.counted; may = w.may; knows = still es w.knows }));
       }
 

@@ -6,7 +6,7 @@ use Rattle.repo_name.specs.declared.tokens.Token.{Token}
 use Rattle.repo_index.specs.declared.facts.Fact.{Fact}
 use Rattle.repo_index.specs.declared.facts.PackFacts.{PackFacts}
 use Rattle.repo_session.specs.Askers.{Holding}
-use Rattle.repo_session.specs.Jobs.{Rule, TurnsOn, MayGoOn}
+use Rattle.repo_session.specs.Jobs.{HeedsReply, Rule, TurnsOn, MayGoOn}
 use Rattle.repo_session.specs.Order.{IsWorking}
 use Rattle.repo_session.specs.Sessions.{FitsWanting, next_in, ended_in}
 use Rattle.repo_session.specs.Traces.{Trace, silent, fed_in, feeding}
@@ -50,6 +50,10 @@ IsPieceOpen j = (b : PieceBacking) × (j.backing ≡ Some b) × IsReady b.work
 -- what it does on a reply, after each trace at whose end this was pending
 abbrev pub PieceReplies : (PieceJob → Ask → Trace → Type 0) → PieceJob → Holding → Ask → Say → Step → PieceJob → Type 0
 PieceReplies Knew old holding ask say step new = TurnsOn piece_rule holding (Knew old) (PieceKnows new) (PieceWants new) (silent ask say) step
+
+-- the step ends the backup by that reply, where a job ends at once on it, after each trace at whose end this was pending
+abbrev pub PieceHeeds : (PieceJob → Ask → Trace → Type 0) → PieceJob → Holding → Ask → Say → Step → Type 0
+PieceHeeds Knew old holding ask say step = HeedsReply piece_rule holding (Knew old) (silent ask say) step
 
 -- what it does next, after each trace where this holds of its work
 abbrev pub PieceSends : (List Fact → PieceBacking → Trace → Type 0) → PieceJob → Holding → Step → PieceJob → Type 0

@@ -15,7 +15,7 @@ ghost use Rattle.repo_session.specs.Traces.{Trace};
 ghost use Rattle.repo_session.specs.declared.catalogs.Catalog.{Catalog};
 ghost use Rattle.repo_backup.specs.BackupStates.{IsBegunAnew, IsFullNow};
 ghost use Rattle.repo_backup.specs.Plans.{beginning};
-ghost use Rattle.repo_backup.specs.Backups.{handed_to, FitsBackup, left_in, Knows, WalksOn, BackupReads, BackupDoes, BackupSends, BackupGoesOn, BackupReplies, StaysPut};
+ghost use Rattle.repo_backup.specs.Backups.{handed_to, FitsBackup, left_in, Knows, WalksOn, BackupReads, BackupDoes, BackupSends, BackupGoesOn, BackupReplies, BackupHeeds, StaysPut};
 ghost use Rattle.repo_backup.specs.declared.walks.Went.{Went};
 ghost use Rattle.repo_session.specs.Sessions.{who_in};
 ghost use Rattle.repo_backup.specs.Handed.{IsRefusalOf, AreHanded};
@@ -230,6 +230,7 @@ impl Backup {
     /// was known is known.
     fn read_on(&mut self, holder: &Holder, ask: &Ask, say: &Say) -> Result<Step, AllocError>
         ensures ok { IfOk result (λ step. BackupReplies BackupReads self.old holder.now ask.now say.now step self.new) }
+        ensures heeds { IfOk result (λ step. BackupHeeds BackupReads self.old holder.now ask.now say.now step) }
         ensures short { IfOk result IsShortStep }
         ensures err { OnErr result ((es : Trace) → BackupReads self.old ask.now es → BackupReads self.new ask.now es) }
         ensures steps { self.new.steps ≡ self.old.steps }
@@ -307,6 +308,7 @@ impl Backup {
     /// Takes a reply that is no refusal. It fails for memory alone, and then what was known is known.
     fn take(&mut self, holder: &Holder, ask: &Ask, say: &Say) -> Result<Step, AllocError>
         ensures ok { IfOk result (λ step. BackupReplies Knows self.old holder.now ask.now say.now step self.new) }
+        ensures heeds { IfOk result (λ step. BackupHeeds Knows self.old holder.now ask.now say.now step) }
         ensures short { IfOk result IsShortStep }
         ensures err { OnErr result ((es : Trace) → Knows self.old ask.now es → Knows self.new ask.now es) }
         ensures steps { self.new.steps ≡ self.old.steps }

@@ -13,7 +13,7 @@ ghost use Rattle.repo_session.specs.Jobs.{IsShortStep};
 ghost use Rattle.repo_session.specs.Traces.{Trace};
 ghost use Rattle.repo_session.specs.declared.jobs.Step.{Step};
 ghost use Rattle.repo_backup.specs.PieceStates.{IsPieceDue, IsPieceDone, IsPieceFull, IsPieceIdle, IsPieceLarge, PieceWent, reopened_backing};
-ghost use Rattle.repo_backup.specs.PieceBackups.{PieceReplies, PieceSends, PieceBusy, PieceFeeds, PieceRefuses, PieceKnows, PieceReads, PieceLaysOn, IsPieceOpen, KeepsPut};
+ghost use Rattle.repo_backup.specs.PieceBackups.{PieceReplies, PieceHeeds, PieceSends, PieceBusy, PieceFeeds, PieceRefuses, PieceKnows, PieceReads, PieceLaysOn, IsPieceOpen, KeepsPut};
 ghost use Rattle.repo_backup.specs.Items.{IsCountOf};
 ghost use Rattle.repo_backup.specs.declared.items.FeedError.{FeedError};
 ghost use Rattle.repo_backup.specs.declared.walks.Went.{Went};
@@ -153,6 +153,7 @@ impl PieceJob {
     /// known is known.
     fn read_on(&mut self, ask: &Ask, say: &Say) -> Result<Step, AllocError>
         ensures ok { IfOk result (λ step. (holding : Holding) → PieceReplies PieceReads self.old holding ask.now say.now step self.new) }
+        ensures heeds { IfOk result (λ step. (holding : Holding) → PieceHeeds PieceReads self.old holding ask.now say.now step) }
         ensures short { IfOk result IsShortStep }
         ensures err { OnErr result ((es : Trace) → PieceReads self.old ask.now es → PieceReads self.new ask.now es) }
     {
@@ -225,6 +226,7 @@ impl PieceJob {
     /// Takes a reply that is no refusal. It fails for memory alone, and then what was known is known.
     fn take(&mut self, holder: &Holder, ask: &Ask, say: &Say) -> Result<Step, AllocError>
         ensures ok { IfOk result (λ step. PieceReplies PieceKnows self.old holder.now ask.now say.now step self.new) }
+        ensures heeds { IfOk result (λ step. PieceHeeds PieceKnows self.old holder.now ask.now say.now step) }
         ensures short { IfOk result IsShortStep }
         ensures err { OnErr result ((es : Trace) → PieceKnows self.old ask.now es → PieceKnows self.new ask.now es) }
     {
@@ -304,7 +306,7 @@ impl PieceJob {
 }
 
 impl Job for PieceJob {
-    ghost use Rattle.std.specs.Prelude.{[], List, ⊤};
+    ghost use Rattle.std.specs.Prelude.{[], List};
     ghost use Rattle.repo_backup.specs.PieceBackups.{given_nothing, by_piece_rule, IsFreshPieces, PieceKnows, PieceWants};
 
     ghost Handed = { Unit {0} };

@@ -2,31 +2,29 @@
 use Rattle.std.proofs.Common.{◌≡◌, ◌-◌, ◌∷◌, [], ℕ, suc, arith, List, length, map, slice_get, Option, Some, None, refl, sym, ap, subst, inl, inr, ◌∙◌}
 use Rattle.repo_name.specs.Naming.{Before}
 use Rattle.repo_index.specs.Order.{names_total}
+use Rattle.repo_name.proofs.Containing.{contains_got}
 use Rattle.repo_name.specs.declared.kinds.Kind.{Kind}
 use Rattle.repo_name.specs.declared.names.Name.{Name}
 use Rattle.repo_wire.specs.declared.messages.Ask.{Ask}
 use Rattle.repo_wire.specs.declared.messages.Code.{Code}
 use Rattle.repo_wire.specs.declared.messages.Say.{Say}
 use Rattle.repo_store.specs.Pages.{Above, Has, NamesAscend}
-use Rattle.repo_session.specs.Blobs.{range_of}
 use Rattle.repo_session.specs.Order.{IsNextPage, May, Task, last_of}
-use Rattle.repo_session.specs.Traces.{Trace, WasAsked, names_in, ReadFact}
+use Rattle.repo_session.specs.Traces.{Trace, WasAsked, names_in}
 use Rattle.repo_session.proofs.Rolling.{not_among, not_before}
-use Rattle.repo_check.specs.Answers.{Answer, IsAnswer}
+use Rattle.repo_check.specs.Answers.{Answer, IsAnswer, IsReachedBlob}
 use Rattle.repo_check.specs.Arrivals.{IsIndexOf, IsPackOf, IsRootOf}
 use Rattle.repo_name.specs.declared.kinds.BlobKind.TheVariants.{Tree}
-use Rattle.repo_index.specs.IndexText.{fact_of}
-use Rattle.repo_session.specs.Traces.{ReadFact}
 use Rattle.repo_check.specs.Checking.{AreAllHeard, IsAskedInTurn, MayRead}
 use Rattle.repo_check.specs.Laws.{HeardOnce}
 use Rattle.repo_check.specs.Rounds.{AreNoted, ArePast, IsGetting, IsWholeRound, KnowsRound, RoundView}
 use Rattle.repo_check.specs.Surveys.{AtTrees, KnowsNotes, RoundsView, Surveys}
 use Rattle.repo_check.specs.Walks.{IsSettled, WalkView}
 use Rattle.repo_check.proofs.Finding.{got_once, has_name}
+use Rattle.repo_check.proofs.Gathered.{HasCome, answers_of, lies_of}
+use Rattle.repo_check.proofs.Led.{got, ranged_so_far, tree_reached}
 use Rattle.repo_check.proofs.Reading.{seen_settled}
 use Rattle.repo_check.proofs.Rounding.{all_got, got_now, heard_of}
-use Rattle.repo_check.proofs.Trailing.{was_read}
-use Rattle.repo_index.specs.IndexText.{fact_of}
 use Rattle.repo_check.proofs.Walking.{due_not_settled}
 
 -- what was said is what came
@@ -117,27 +115,21 @@ module _ {T : Type 0} (k : Kind) (Gives : Answer → T → Type 0) (round : Roun
   round_new task (Ask.Upgrade token) may turn h = absurd h
   round_new task Ask.Config may turn h = absurd h
 
--- a tree's place comes after all objects; where it was asked for, it was for another tree
+-- the place of the tree that is awaited is due
 range_new : (rounds : RoundsView) (walk : WalkView) (ask : Ask) (es : Trace) → KnowsNotes rounds es → AtTrees rounds walk ask es → MayRead es ask
 range_new rounds walk ask es notes at =
     let fact = at.fact in
-    let given : ReadFact es (fact_of Tree fact.name fact.place) = was_read rounds walk.known.facts _ es notes at.objects.facts at.awaits.due.least.among in
-    subst (λ a. MayRead es a) (sym at.asked) (
-      (fact.name, given),
-      λ was.
-          let heard = heard_of es (range_of fact) was in
-          let a = at.reads.seen.only fact.place heard.0 heard.1 in
-          record {
-            one = a.0.name;
-            other = fact.name;
-            apart = λ same. due_not_settled walk.known fact.name fact at.awaits.due (subst (λ m. IsSettled walk.known m) same (seen_settled walk.known es a.0 (at.reads.seen.each a.0 a.1)));
-            gives_one = was_read rounds walk.known.facts _ es notes at.objects.facts a.2.among;
-            gives_other = given;
-          },
-      all_heard Kind.Snapshot IsRootOf rounds.snapshots es at.objects.snapshots notes.snapshots,
-      all_heard Kind.Index IsIndexOf rounds.indexes es at.objects.indexes notes.indexes,
-      all_heard Kind.Pack IsPackOf rounds.packs es at.objects.packs notes.packs,
-    )
+    let known = walk.known in
+    let awaits = at.awaits in
+    let came : HasCome rounds walk es = record { notes = notes; roots = at.roots; objects = at.objects; led = awaits.walks.led; answers = at.answers; reads = at.reads } in
+    subst (λ a. MayRead es a) (sym at.asked) (record {
+      answers = answers_of came;
+      so_far = record { objects = got rounds walk es came; trees = ranged_so_far rounds walk es came };
+      tree = fact.name;
+      reached = subst (λ n. IsReachedBlob (answers_of came) Tree n) awaits.of_tree (tree_reached rounds walk es came awaits.visit (contains_got walk.visits walk.place awaits.visit awaits.here));
+      lies = lies_of rounds walk es came Tree fact.name fact.place awaits.due.least;
+      unanswered = λ a c same. due_not_settled known fact.name fact awaits.due (subst (λ n. IsSettled known n) same (seen_settled known es a (at.reads.seen.each a c)));
+    })
 
 -- what is pending of a survey may be read
 pub survey_new : (task : Task) (rounds : RoundsView) (walk : WalkView) (ask : Ask) (es : Trace) → May task es ask → Surveys rounds walk ask es → MayRead es ask

@@ -8,7 +8,7 @@ use Rattle.repo_name.specs.declared.kinds.Kind.{Kind}
 use Rattle.repo_name.specs.declared.names.Name.{Name}
 use Rattle.repo_tree.specs.SnapshotText.{SnapshotFault}
 use Rattle.repo_tree.specs.declared.faults.TextError.{TextError}
-use Rattle.repo_session.proofs.Understanding.{snapshot_version}
+use Rattle.repo_session.proofs.Heeding.{snapshot_version}
 use Rattle.repo_session.specs.Versions.{upto}
 use Rattle.repo_session.specs.declared.versions.Versions.{Versions}
 use Rattle.repo_session.proofs.Faulting.{known_exist, snapshot_fault}

@@ -60,7 +60,7 @@ module _ (rounds : RoundsView) (walk : WalkView) (es : Trace) (s : IsSurveyed ro
   A = answers_in s
 
   pub once_found : (k : BlobKind) (f g : Option FaultKind) (n : Name) → BlobIs A k n f → BlobIs A k n g → f ≡ g
-  once_found k f g n = blob_once A ((surveyed_is_received rounds walk es s).trees.once) k n f g
+  once_found k f g n = blob_once A ((surveyed_is_received rounds walk es s).trees.so_far.once) k n f g
 
   pub content_finds : (found : List (Option FaultKind)) → Match (ContentFault walk.known.facts) reached.content found → Finds A Content reached.content found
   content_finds found m = record {

@@ -290,8 +290,8 @@ pub found_once : FoundOnce
 found_once es answers are Thing.Pack n f g h i = of_object_once es answers are Kind.Pack n f g h i
 found_once es answers are Thing.Index n f g h i = of_object_once es answers are Kind.Index n f g h i
 found_once es answers are Thing.Snapshot n f g h i = of_object_once es answers are Kind.Snapshot n f g h i
-found_once es answers are Thing.Content n f g h i = blob_once answers are.trees.once Content n f g h.1 i.1
-found_once es answers are Thing.Tree n f g h i = blob_once answers are.trees.once Tree n f g h.1 i.1
+found_once es answers are Thing.Content n f g h i = blob_once answers are.trees.so_far.once Content n f g h.1 i.1
+found_once es answers are Thing.Tree n f g h i = blob_once answers are.trees.so_far.once Tree n f g h.1 i.1
 
 -- ---- well, and no fault
 
@@ -303,7 +303,7 @@ module _ (es : Trace) (answers : Gathered) (are : AreAnswers es answers) (well :
   no_object k n what h = never what (object_once answers k h.0 None (Some what) (well.objects k h.0 h.1) h.3)
 
   no_blob : (k : BlobKind) (n : Name) (what : FaultKind) → OfBlob answers k n (Some what) → ⊥
-  no_blob k n what h = never what (blob_once answers are.trees.once k n None (Some what) (well.blobs k n h.0) h.1)
+  no_blob k n what h = never what (blob_once answers are.trees.so_far.once k n None (Some what) (well.blobs k n h.0) h.1)
 
   no_thing : (thing : Thing) (n : Name) (what : FaultKind) → IsFound answers thing n (Some what) → ⊥
   no_thing Thing.Pack n what h = no_object Kind.Pack n what h

@@ -28,9 +28,10 @@ use Rattle.repo_check.specs.Arrivals.{AnswersBytes, IsFaulty, IsIndexOf, IsRootO
 use Rattle.repo_check.specs.Findings.{IsIllegible, ReadsAs}
 use Rattle.repo_check.specs.Gathering.{facts_noted, root_noted}
 use Rattle.repo_check.specs.Rounds.{IsNoteOf, Match}
-use Rattle.repo_check.specs.Surveys.{IsSurveyed, RoundsView, answers_in}
-use Rattle.repo_check.specs.Walks.{WalkView}
+use Rattle.repo_check.specs.Surveys.{HasObjects, IsSurveyed, KnowsNotes, RoundsView, objects_in}
+use Rattle.repo_check.specs.Walks.{IsVisit, WalkReads, WalkView}
 use Rattle.repo_check.specs.declared.rounds.Note.{Note}
+use Rattle.repo_check.specs.declared.visiting.Visit.{Visit}
 use Rattle.repo_check.proofs.Finding.{illegible_not}
 
 -- ---- lists that match
@@ -70,9 +71,26 @@ faulty_not answers k a x FaultKind.Unindexed has reads h = h answers
 pub came_as : (answers : List Answer) (a : Answer) (x : List ℕ) → Contains answers a → AnswersBytes a x → Came answers a.name x
 came_as answers a x c has = record { among = subst (λ (b : Option (List ℕ)). Contains answers (record { name = a.name; bytes = b })) has.0 c; named = has.1 }
 
-module _ (rounds : RoundsView) (walk : WalkView) (es : Trace) (s : IsSurveyed rounds walk es) where
+-- all objects came, and of trees what came so far; roots lead to each visit
+pub record HasCome (rounds : RoundsView) (walk : WalkView) (es : Trace) : Type 0 where
+  pub notes : KnowsNotes rounds es
+  pub roots : List Root
+  pub objects : HasObjects rounds walk roots es
+  pub led : (v : Visit) → Contains walk.visits v → IsVisit walk.known.kept roots v
+  pub answers : List Answer
+  pub reads : WalkReads walk answers es
+
+-- all answers that came so far
+abbrev pub answers_of : {rounds : RoundsView} {walk : WalkView} {es : Trace} → HasCome rounds walk es → Gathered
+answers_of s = record { objects = objects_in s.notes; trees = s.answers }
+
+-- where all came, so it did
+abbrev pub came_in : {rounds : RoundsView} {walk : WalkView} {es : Trace} → IsSurveyed rounds walk es → HasCome rounds walk es
+came_in s = record { notes = s.notes; roots = s.roots; objects = s.objects; led = s.over.led; answers = s.answers; reads = s.reads }
+
+module _ (rounds : RoundsView) (walk : WalkView) (es : Trace) (s : HasCome rounds walk es) where
   abbrev A : Gathered
-  A = answers_in s
+  A = answers_of s
 
   abbrev facts : List Fact
   facts = walk.known.facts

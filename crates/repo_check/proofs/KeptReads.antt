@@ -23,10 +23,10 @@ use Rattle.repo_tree.specs.declared.nodes.Node.{Node}
 use Rattle.repo_check.specs.Answers.{Answer, Gathered, TreesOf}
 use Rattle.repo_check.specs.Keeping.{links_of, next_of}
 use Rattle.repo_check.specs.Measures.{IsReadAs}
-use Rattle.repo_check.specs.Surveys.{IsSurveyed, RoundsView, answers_in}
+use Rattle.repo_check.specs.Surveys.{RoundsView}
 use Rattle.repo_check.specs.Walks.{IsTold, WalkView}
 use Rattle.repo_check.specs.declared.keeping.Kept.{Kept}
-use Rattle.repo_check.proofs.Gathered.{came_as, least_of, lies_of}
+use Rattle.repo_check.proofs.Gathered.{HasCome, answers_of, came_as, least_of, lies_of}
 use Rattle.repo_check.proofs.Measuring.{least_one}
 
 -- ---- what a part's text says
@@ -73,9 +73,9 @@ told_read facts place a (Some x) None told kept is = (true, subst (λ y. IsReadA
 told_read facts place a (Some x) (Some what) told kept is = (false, subst (λ y. IsReadAs facts place a y false) (same_Some x kept is) told.1)
 told_read facts place a None f told kept is = absurd (cc is)
 
-module _ (rounds : RoundsView) (walk : WalkView) (es : Trace) (s : IsSurveyed rounds walk es) where
+module _ (rounds : RoundsView) (walk : WalkView) (es : Trace) (s : HasCome rounds walk es) where
   abbrev A : Gathered
-  A = answers_in s
+  A = answers_of s
 
   abbrev T : Blobs
   T = TreesOf A

@@ -18,8 +18,10 @@ pub mod Matching
 pub mod Reading
 pub mod Surveying
 pub mod Trailing
+pub mod Heeding
 pub mod Gathered
 pub mod KeptReads
+pub mod Led
 pub mod Reached
 pub mod Stands
 pub mod PackFinds

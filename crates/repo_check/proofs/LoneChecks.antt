@@ -40,7 +40,7 @@ use Rattle.repo_check.specs.Answers as answers_of
 use Rattle.repo_check.specs.Answers.{Answer, GivesFact, LiesAt}
 use Rattle.repo_check.specs.Checking.{check_task, CheckAllows, CheckGives, CheckConcludes, AreAnswers, IsAtFault, CameFor, IsRanged, IsClean}
 use Rattle.repo_check.specs.Laws as laws
-use Rattle.repo_check.specs.Laws.{AreObjects, HasNoClash}
+use Rattle.repo_check.specs.Laws.{AreObjects}
 use Rattle.repo_check.specs.Laws.IsSpoken.{of_object, of_tree, of_pack}
 use Rattle.repo_check.specs.LoneLaws.{AreStoredApart, CheckChangesNothing, CheckEndsWell, CleanIsOfSound, IsCleanOrMemory}
 use Rattle.repo_check.proofs.Finding.{lies_one}
@@ -186,7 +186,7 @@ module _ (who : Asker) (from : Store) where
       ranged a c place at pack x here stands = by a.bytes refl (subst (λ p. IsRanged (trace_of talk) p a.bytes) same each.2)
         where
           each : (p : Place) × LiesAt answers Tree a.name p × IsRanged (trace_of talk) p a.bytes
-          each = (received.trees.each a c).1
+          each = (received.trees.so_far.each a c).1
 
           same : each.0 ≡ place
           same = lies_one answers Tree a.name each.0 place each.1 at
@@ -220,7 +220,7 @@ module _ (who : Asker) (from : Store) where
       is_spoken x (of_object k n among) = inl (k, inl (n, (are clean.answers clean.received k n x).1 among))
       is_spoken x (of_pack fact pack gives among stands) = part fact pack x gives ((are clean.answers clean.received Kind.Pack fact.place.pack pack).1 among) stands
       is_spoken x (of_tree n among) =
-          let t = clean.received.trees.each (record { name = n; bytes = Some x }) among in
+          let t = clean.received.trees.so_far.each (record { name = n; bytes = Some x }) among in
           let place : Place = t.1.0 in
           let found = shares.ranged place.pack place.offset place.length x t.1.2 in
           part (fact_of Tree n place) found.0 x t.1.1.given (first Kind.Pack place.pack found.0 found.1) found.2

@@ -1,37 +1,33 @@
 -- The visits of a walk that is over are what the snapshots reach.
-use Rattle.std.proofs.Common.{arith, ◌≡◌, ◌≤◌, ◌<◌, ◌+◌, ◌++◌, ◌∷◌, [], ℕ, Bool, zero, suc, true, false, List, length, Option, Some, None, refl, sym, ap, subst, inl, inr, ◌∙◌, length-append, Contains}
+use Rattle.std.proofs.Common.{arith, ◌≡◌, ◌≤◌, ◌<◌, ◌+◌, ◌∷◌, [], ℕ, Bool, zero, suc, true, false, List, length, Option, Some, refl, sym, subst, inl, inr, Contains}
 use Rattle.std.specs.Prelude.{⊤}
 use Rattle.repo_name.specs.declared.kinds.BlobKind.{BlobKind}
 use Rattle.repo_name.specs.declared.kinds.BlobKind.TheVariants.{Content, Tree}
-use Rattle.repo_name.specs.declared.kinds.Kind.{Kind}
 use Rattle.repo_name.specs.declared.names.Name.{Name}
-use Rattle.repo_name.proofs.Containing.{contained_or, contains_flat, first_contained, flat_contains, none_contained}
+use Rattle.repo_name.proofs.Containing.{contains_flat, first_contained}
 use Rattle.repo_pack.specs.declared.places.Place.{Place}
 use Rattle.repo_index.specs.IndexText.{fact_of}
 use Rattle.repo_reach.specs.Collected.{version_by}
 use Rattle.repo_reach.specs.Links.{LeadTo, content_in, content_of, trees_in, trees_of}
 use Rattle.repo_reach.specs.Walks.{trees_below}
 use Rattle.repo_reach.specs.declared.links.Links.{Links}
-use Rattle.repo_session.proofs.Reaching.{file_reached, under_reached}
-use Rattle.repo_session.specs.Trees.{IsNodeAt, Under}
+use Rattle.repo_session.specs.Trees.{Under}
 use Rattle.repo_session.specs.Traces.{Trace}
 use Rattle.repo_tree.specs.Parts.{Blobs, GoesOn, IsPartBy, ListsBy}
-use Rattle.repo_tree.specs.Spelling.{NodeReaches, Reach, ReachTo, greatest_depth}
+use Rattle.repo_tree.specs.Spelling.{NodeReaches, ReachTo, greatest_depth}
 use Rattle.repo_tree.specs.declared.nodes.Node.{Node}
 use Rattle.repo_tree.specs.declared.nodes.NodeKind.{NodeKind}
-use Rattle.repo_check.specs.Answers.{Answer, Gathered, GivesRoot, IsReachedBlob, IsDeepest, IsFollowed, LiesAt, TreesOf}
-use Rattle.repo_check.specs.Arrivals.{IsIndexOf, IsPackOf, IsRootOf}
-use Rattle.repo_check.specs.Checking.{AreGot, AreRanged}
+use Rattle.repo_check.specs.Answers.{Answer, Gathered, IsReachedBlob, IsDeepest, IsFollowed, LiesAt, TreesOf}
+use Rattle.repo_check.specs.Checking.{AreRanged}
 use Rattle.repo_check.specs.Keeping.{content_within, links_of}
-use Rattle.repo_check.specs.Surveys.{ContentIsReached, IsSurveyed, IsVisited, RoundsView, SurveyedIsReceived, VisitsAreReached, answers_in, objects_in}
-use Rattle.repo_check.specs.Visiting.{GoesThrough, IsGiven, IsLedTo, IsPartIn, visit_at}
+use Rattle.repo_check.specs.Surveys.{ContentIsReached, IsSurveyed, IsVisited, RoundsView, SurveyedIsReceived, VisitsAreReached, answers_in}
+use Rattle.repo_check.specs.Visiting.{IsGiven, visit_at}
 use Rattle.repo_check.specs.Walks.{IsSettled, WalkView}
 use Rattle.repo_check.specs.declared.visiting.Gift.{Gift}
 use Rattle.repo_check.specs.declared.visiting.Visit.{Visit}
-use Rattle.repo_check.proofs.Gathered.{contains_of, lies_of, of_root, root_of}
-use Rattle.repo_check.proofs.Rounding.{all_got}
-use Rattle.repo_check.proofs.Spellings.{under_step}
-use Rattle.repo_check.proofs.KeptReads.{links_lists, lists_links, next_part, part_next}
+use Rattle.repo_check.proofs.Gathered.{HasCome, came_in, contains_of, of_root}
+use Rattle.repo_check.proofs.Led.{content_reached, deepest_by, followed_by, got, ranged_so_far, tree_reached}
+use Rattle.repo_check.proofs.KeptReads.{lists_links, part_next}
 
 -- what is listed is among what is kept
 listed_below : (o : Option Links) (links : Links) (nodes : List Node) (n : Name) → o ≡ Some links → LeadTo nodes links → Contains (trees_of nodes) n → Contains (trees_below o) n
@@ -39,29 +35,6 @@ listed_below o links nodes n is lead c = subst (λ p. Contains (trees_below p) n
 
 listed_within : (o : Option Links) (links : Links) (nodes : List Node) (n : Name) → o ≡ Some links → LeadTo nodes links → Contains (content_of nodes) n → Contains (content_within o) n
 listed_within o links nodes n is lead c = subst (λ p. Contains (content_within p) n) (sym is) (subst (λ ns. Contains ns n) (sym lead.content) c)
-
-below_some : (o : Option Links) (n : Name) → Contains (trees_below o) n → (links : Links) × (o ≡ Some links) × Contains links.trees.items n
-below_some None n c = absurd (none_contained n c)
-below_some (Some links) n c = (links, refl, c)
-
-within_some : (o : Option Links) (n : Name) → Contains (content_within o) n → (links : Links) × (o ≡ Some links) × Contains links.content.items n
-within_some None n c = absurd (none_contained n c)
-within_some (Some links) n c = (links, refl, c)
-
--- which node it is that leads to a tree, or has content
-dir_among : (nodes : List Node) (node : Node) (what : NodeKind) (n : Name) → node.what ≡ what → Contains nodes node → Contains (trees_in what) n → Contains nodes (record { name = node.name; what = NodeKind.Dir n })
-dir_among nodes node (NodeKind.Dir sub) n is among inside =
-    let same : sub ≡ n = elim (contained_or sub [] n inside) [ inl same ↦ same | inr none ↦ absurd (none_contained n none) ] in
-    let whole : node ≡ record { name = node.name; what = NodeKind.Dir n } = λ i. record { name = node.name; what = (is ∙ ap NodeKind.Dir same) i } in
-    subst (λ (z : Node). Contains nodes z) whole among
-dir_among nodes node (NodeKind.File size content) n is among inside = absurd (none_contained n inside)
-
-file_among : (nodes : List Node) (node : Node) (what : NodeKind) (n : Name) → node.what ≡ what → Contains nodes node → Contains (content_in what) n
-    → (size : ℕ) × (content : List Name) × Contains nodes (record { name = node.name; what = NodeKind.File size content }) × Contains content n
-file_among nodes node (NodeKind.Dir sub) n is among inside = absurd (none_contained n inside)
-file_among nodes node (NodeKind.File size content) n is among inside =
-    let whole : node ≡ record { name = node.name; what = NodeKind.File size content } = λ i. record { name = node.name; what = is i } in
-    (size, content, subst (λ (z : Node). Contains nodes z) whole among, inside)
 
 module _ (rounds : RoundsView) (walk : WalkView) (es : Trace) (s : IsSurveyed rounds walk es) where
   abbrev A : Gathered
@@ -73,23 +46,17 @@ module _ (rounds : RoundsView) (walk : WalkView) (es : Trace) (s : IsSurveyed ro
   abbrev visits : List Visit
   visits = walk.visits
 
-  -- ---- what is visited, the roots reach
+  abbrev came : HasCome rounds walk es
+  came = came_in s
+
+  -- ---- what the roots reach, is visited
 
   module _ (follows : Bool) where
     abbrev version : ℕ
     version = version_by follows
 
-    record Path (d : ℕ) (t : Name) : Type 0 where
-      pub root : Name
-      pub rooted : Contains s.roots (record { tree = root; follows = follows })
-      pub path : List (List ℕ)
-      pub under : Under version T root path t
-      pub len : length path ≡ d
-
     abbrev at : ℕ → Name → Visit
     at d n = visit_at follows d n
-
-    -- ---- what the roots reach, is visited
 
     -- the trees of a directory are all visited at its depth
     abbrev AllStand : ℕ → Name → Type 0
@@ -97,7 +64,7 @@ module _ (rounds : RoundsView) (walk : WalkView) (es : Trace) (s : IsSurveyed ro
 
     stands_next : (d : ℕ) (t : Name) (nodes : List Node) (name : List ℕ) (sub : Name) → d < greatest_depth → Contains visits (at d t) → ListsBy version T t nodes → Contains nodes (record { name = name; what = NodeKind.Dir sub }) → Contains visits (at (suc d) sub)
     stands_next d t nodes name sub less stands lists among =
-        let links = lists_links rounds walk es s follows t nodes lists in
+        let links = lists_links rounds walk es came follows t nodes lists in
         let node : Node = record { name = name; what = NodeKind.Dir sub } in
         let listed : Contains (trees_of nodes) sub = contains_flat (λ (z : Node). trees_in z.what) nodes node sub among (first_contained sub []) in
         (s.over.made (at d t) stands).1 (at (suc d) sub) (inl (less, (sub, listed_below (links_of (walk.known.kept t) follows) links.0 nodes sub links.1 links.2 listed, refl)))
@@ -106,7 +73,7 @@ module _ (rounds : RoundsView) (walk : WalkView) (es : Trace) (s : IsSurveyed ro
   goes_stand : (d : ℕ) (top t : Name) (through : List Name) → GoesOn T top through t → Contains visits (visit_at true d top) → Contains visits (visit_at true d t)
   goes_stand d top t [] goes stands = subst (λ m. Contains visits (visit_at true d m)) (sym goes) stands
   goes_stand d top t (n ∷ through) goes stands =
-      goes_stand d n t through goes.2 ((s.over.made (visit_at true d top) stands).1 (visit_at true d n) (inr (n, part_next rounds walk es s top n goes.0 goes.1, refl)))
+      goes_stand d n t through goes.2 ((s.over.made (visit_at true d top) stands).1 (visit_at true d n) (inr (n, part_next rounds walk es came top n goes.0 goes.1, refl)))
 
   all_stand : (follows : Bool) (d : ℕ) (top : Name) → Contains visits (visit_at follows d top) → AllStand follows d top
   all_stand true d top stands t (through, goes) = goes_stand d top t through goes stands
@@ -125,7 +92,7 @@ module _ (rounds : RoundsView) (walk : WalkView) (es : Trace) (s : IsSurveyed ro
   through_node : (follows : Bool) (e : ℕ) → Down follows e → (d : ℕ) → d + suc e ≡ greatest_depth → (t : Name) (nodes : List Node) → Contains visits (visit_at follows d t) → ListsBy (version_by follows) T t nodes → (name : List ℕ) (what : NodeKind)
       → Contains nodes (record { name = name; what = what }) → (k : BlobKind) (n : Name) → NodeReaches (ReachTo (version_by follows) e T) what k n → Found k n
   through_node follows e deeper d sum t nodes stands lists name (NodeKind.File size content) among k n h =
-      let links = lists_links rounds walk es s follows t nodes lists in
+      let links = lists_links rounds walk es came follows t nodes lists in
       let node : Node = record { name = name; what = NodeKind.File size content } in
       let listed : Contains (content_of nodes) n = contains_flat (λ (z : Node). content_in z.what) nodes node n among h.1 in
       subst (λ j. Found j n) (sym h.0) (visit_at follows d t, stands, (omega (arith, sum), listed_within (links_of (walk.known.kept t) follows) links.0 nodes n links.1 links.2 listed))
@@ -144,7 +111,7 @@ module _ (rounds : RoundsView) (walk : WalkView) (es : Trace) (s : IsSurveyed ro
 
   pub found_of : (k : BlobKind) (n : Name) → IsReachedBlob A k n → Found k n
   found_of k n h =
-      let root = of_root rounds walk es s h.0 h.1 h.2 in
+      let root = of_root rounds walk es came h.0 h.1 h.2 in
       down root.0 greatest_depth 0 (omega arith) h.1 (root_stands root.0 h.1 root.2) k n (subst (λ v. ReachTo v greatest_depth T h.1 k n) (sym root.1) h.3)
 
   -- ---- the deepest, and those that are followed
@@ -160,7 +127,7 @@ module _ (rounds : RoundsView) (walk : WalkView) (es : Trace) (s : IsSurveyed ro
 
   pub of_deepest : (n : Name) → IsDeepest A n → IsVisited visits (λ v. v.depth ≡ greatest_depth) n
   of_deepest n h =
-      let root = of_root rounds walk es s h.0 h.1 h.2 in
+      let root = of_root rounds walk es came h.0 h.1 h.2 in
       let path = h.3.0 in
       let len = h.3.2 in
       let sum : 0 + length path ≡ greatest_depth = omega (arith, len) in
@@ -189,87 +156,10 @@ module _ (rounds : RoundsView) (walk : WalkView) (es : Trace) (s : IsSurveyed ro
 
   pub of_followed : (n : Name) → IsFollowed A n → IsVisited visits (λ v. v.follows ≡ true) n
   of_followed n (root, gives, reach) =
-      let from = of_root rounds walk es s 2 root gives in
+      let from = of_root rounds walk es came 2 root gives in
       let is = two_follows from.0 from.1 in
       let stands = so_down from.0 greatest_depth 0 (omega arith) root n (root_stands from.0 root from.2) (subst (λ v. ReachTo v greatest_depth T root Tree n) (sym from.1) reach) in
       (visit_at from.0 stands.0 n, stands.1, refl, is)
-
-  -- ---- what is visited is reached
-
-  part_by : (follows : Bool) (top t : Name) → IsPartIn walk.known.kept follows top t → IsPartBy (version_by follows) T top t
-  part_by true top t (through, goes) = (through, goes_by top t through goes)
-    where
-      goes_by : (top t : Name) (through : List Name) → GoesThrough walk.known.kept top through t → GoesOn T top through t
-      goes_by top t [] goes = goes
-      goes_by top t (n ∷ through) goes = let p = next_part rounds walk es s top n goes.0 in (p.0, p.1, goes_by n t through goes.1)
-  part_by false top t same = same
-
-  path_to : (follows : Bool) (d : ℕ) (t : Name) → IsLedTo walk.known.kept s.roots follows d t → Path follows d t
-  path_to follows zero t (top, among, belongs) = record { root = top; rooted = among; path = []; under = part_by follows top t belongs; len = refl }
-  path_to follows (suc d) t (above, sub, led, below, belongs) =
-      let before = path_to follows d above led in
-      let links = below_some (links_of (walk.known.kept above) follows) sub below in
-      let lists = links_lists rounds walk es s follows above links.0 links.1 in
-      let from = flat_contains (λ (node : Node). trees_in node.what) lists.0 sub (subst (λ ns. Contains ns sub) lists.2.trees links.2) in
-      let len = before.len in
-      record {
-        root = before.root;
-        rooted = before.rooted;
-        path = before.path ++ from.0.name ∷ [];
-        under = under_step (version_by follows) T before.root before.path above lists.0 from.0.name sub t before.under lists.1 (dir_among lists.0 from.0 from.0.what sub refl from.1 from.2) (part_by follows sub t belongs);
-        len = omega (arith, len, length-append before.path (from.0.name ∷ []));
-      }
-
-  path_of : (v : Visit) → Contains visits v → Path v.follows v.depth v.tree
-  path_of v c = path_to v.follows v.depth v.tree (s.over.led v c).0
-
-  pub tree_reached : (v : Visit) → Contains visits v → IsReachedBlob A Tree v.tree
-  tree_reached v c =
-      let p = path_of v c in
-      let few = (s.over.led v c).1 in
-      let len = p.len in
-      (version_by v.follows, p.root, root_of rounds walk es s (record { tree = p.root; follows = v.follows }) p.rooted, under_reached (version_by v.follows) T p.root p.path v.tree (omega (arith, few, len)) p.under)
-
-  pub followed_by : (v : Visit) → Contains visits v → v.follows ≡ true → IsFollowed A v.tree
-  followed_by v c is =
-      let p = path_of v c in
-      let few = (s.over.led v c).1 in
-      let len = p.len in
-      let two : version_by v.follows ≡ 2 = ap version_by is in (
-        p.root,
-        subst (λ k. GivesRoot A k p.root) two (root_of rounds walk es s (record { tree = p.root; follows = v.follows }) p.rooted),
-        subst (λ k. Reach k T p.root Tree v.tree) two (under_reached (version_by v.follows) T p.root p.path v.tree (omega (arith, few, len)) p.under),
-      )
-
-  pub deepest_by : (v : Visit) → Contains visits v → v.depth ≡ greatest_depth → IsDeepest A v.tree
-  deepest_by v c is =
-      let p = path_of v c in
-      (version_by v.follows, p.root, root_of rounds walk es s (record { tree = p.root; follows = v.follows }) p.rooted, (p.path, p.under, p.len ∙ is))
-
-  content_reached : (n : Name) → IsGiven Gift.Content walk.known.kept visits n → IsReachedBlob A Content n
-  content_reached n (v, c, (less, within)) =
-      let p = path_of v c in
-      let len = p.len in
-      let links = within_some (links_of (walk.known.kept v.tree) v.follows) n within in
-      let lists = links_lists rounds walk es s v.follows v.tree links.0 links.1 in
-      let from = flat_contains (λ (node : Node). content_in node.what) lists.0 n (subst (λ ns. Contains ns n) lists.2.content links.2) in
-      let file = file_among lists.0 from.0 from.0.what n refl from.1 from.2 in
-      let long = length-append p.path (from.0.name ∷ []) in
-      let node : IsNodeAt (version_by v.follows) T p.root (p.path ++ from.0.name ∷ []) (NodeKind.File file.0 file.1) = record {
-        above = p.path;
-        name = from.0.name;
-        tree = v.tree;
-        nodes = lists.0;
-        leads = p.under;
-        read = lists.1;
-        among = file.2;
-        joined = refl;
-      } in (
-        version_by v.follows,
-        p.root,
-        root_of rounds walk es s (record { tree = p.root; follows = v.follows }) p.rooted,
-        file_reached (version_by v.follows) T p.root (p.path ++ from.0.name ∷ []) file.0 file.1 n (omega (arith, len, less, long)) node file.3,
-      )
 
   -- ---- what was received
 
@@ -279,31 +169,20 @@ module _ (rounds : RoundsView) (walk : WalkView) (es : Trace) (s : IsSurveyed ro
   asked : (n : Name) (place : Place) → LiesAt A Tree n place → IsSettled walk.known n → (a : Answer) × Contains s.answers a × (a.name ≡ n)
   asked n place lies (inl read) = s.reads.seen.kept n read.0 read.1
   asked n place lies (inr (inl faulty)) = s.reads.seen.faults n faulty.0 faulty.1
-  asked n place lies (inr (inr nowhere)) = absurd (nowhere place (contains_of rounds walk es s (fact_of Tree n place) lies.given))
+  asked n place lies (inr (inr nowhere)) = absurd (nowhere place (contains_of rounds walk es came (fact_of Tree n place) lies.given))
 
   ranged : AreRanged es A
-  ranged = record {
-    each = λ a c. (let seen = s.reads.seen.each a c in let r = s.reads.reached a c in
-        (subst (λ m. IsReachedBlob A Tree m) r.2 (tree_reached r.0 r.1), (seen.place, lies_of rounds walk es s Tree a.name seen.place seen.least, seen.ranged)));
-    all = λ n place reached lies. asked n place lies (settled n (found_of Tree n reached));
-    once = s.reads.seen.once;
-    only = λ place say heard. (let there = s.reads.seen.only place say heard in (there.0, there.1, lies_of rounds walk es s Tree there.0.name place there.2, there.3));
-  }
-
-  got : (k : Kind) → AreGot es k (objects_in s.notes k)
-  got Kind.Pack = all_got Kind.Pack IsPackOf rounds.packs es s.objects.packs s.notes.packs
-  got Kind.Index = all_got Kind.Index IsIndexOf rounds.indexes es s.objects.indexes s.notes.indexes
-  got Kind.Snapshot = all_got Kind.Snapshot IsRootOf rounds.snapshots es s.objects.snapshots s.notes.snapshots
+  ranged = record { so_far = ranged_so_far rounds walk es came; all = λ n place reached lies. asked n place lies (settled n (found_of Tree n reached)) }
 
 pub surveyed_is_received : SurveyedIsReceived
-surveyed_is_received rounds walk es s = record { objects = got rounds walk es s; trees = ranged rounds walk es s }
+surveyed_is_received rounds walk es s = record { objects = got rounds walk es (came_in s); trees = ranged rounds walk es s }
 
 pub visits_are_reached : VisitsAreReached
 visits_are_reached rounds walk es s n = (
-  (found_of rounds walk es s Tree n, λ h. subst (λ m. IsReachedBlob (answers_in s) Tree m) h.2 (tree_reached rounds walk es s h.0 h.1)),
-  (of_deepest rounds walk es s n, λ h. subst (λ m. IsDeepest (answers_in s) m) h.2 (deepest_by rounds walk es s h.0 h.1 h.3)),
-  (of_followed rounds walk es s n, λ h. subst (λ m. IsFollowed (answers_in s) m) h.2 (followed_by rounds walk es s h.0 h.1 h.3)),
+  (found_of rounds walk es s Tree n, λ h. subst (λ m. IsReachedBlob (answers_in s) Tree m) h.2 (tree_reached rounds walk es (came_in s) h.0 h.1)),
+  (of_deepest rounds walk es s n, λ h. subst (λ m. IsDeepest (answers_in s) m) h.2 (deepest_by rounds walk es (came_in s) h.0 h.1 h.3)),
+  (of_followed rounds walk es s n, λ h. subst (λ m. IsFollowed (answers_in s) m) h.2 (followed_by rounds walk es (came_in s) h.0 h.1 h.3)),
 )
 
 pub content_is_reached : ContentIsReached
-content_is_reached rounds walk es s n = (found_of rounds walk es s Content n, content_reached rounds walk es s n)
+content_is_reached rounds walk es s n = (found_of rounds walk es s Content n, content_reached rounds walk es (came_in s) n)

@@ -1,5 +1,5 @@
 -- What a survey knows after one more exchange.
-use Rattle.std.proofs.Common.{◌≡◌, ◌≤◌, ◌++◌, ◌∷◌, ℕ, false, true, List, Option, refl, sym, subst, inl, inr, ◌∙◌, [], ◌≢◌}
+use Rattle.std.proofs.Common.{◌≡◌, ◌≤◌, ◌++◌, ◌∷◌, ℕ, false, true, List, Option, refl, sym, subst, inl, inr, ◌∙◌, []}
 use Rattle.repo_name.specs.declared.kinds.Kind.{Kind}
 use Rattle.repo_name.specs.declared.names.Name.{Name}
 use Rattle.repo_name.specs.declared.tokens.Token.{Token}
@@ -7,8 +7,7 @@ use Rattle.repo_wire.specs.declared.messages.Ask.{Ask}
 use Rattle.repo_wire.specs.declared.messages.Say.{Say}
 use Rattle.repo_index.specs.declared.facts.Fact.{Fact}
 use Rattle.repo_index.specs.declared.facts.PackFacts.{PackFacts}
-use Rattle.repo_session.specs.Ends.{IsOfOtherVersion}
-use Rattle.repo_session.specs.Order.{Task, IsReading, IsWorking, May, last_of, opened, IsWork}
+use Rattle.repo_session.specs.Order.{Task, IsReading, IsWorking, May, last_of, opened}
 use Rattle.repo_session.specs.Rolls.{IsRolled}
 use Rattle.repo_session.specs.Traces.{Exchange, Exchanged, Trace, silent}
 use Rattle.repo_session.proofs.Holding.{opened_working}
@@ -307,18 +306,3 @@ pub tree_back : (rounds rounds' : RoundsView) (walk walk' new : WalkView) (pack 
 tree_back rounds rounds' walk walk' new pack offset len es taken back h =
     let t = taken.1 es h in
     subst (λ w. Surveys rounds' w (Ask.Range pack offset len) es) (sym (back t.0 t.1 t.2 t.3 t.4)) (subst (λ r. Surveys r walk (Ask.Range pack offset len) es) (sym taken.0) h)
-
--- of the requests of a job's work none but that for an object is told what is of another version
-pub other_work : (known : ℕ) (ask : Ask) (say : Say) → ((k : Kind) (n : Name) → ask ≢ Ask.Get k n) → IsWork ask → ¬ IsOfOtherVersion known ask say
-other_work known (Ask.Get k n) say none work other = none k n refl
-other_work known Ask.Config say none work other = work
-other_work known Ask.Ticket say none work other = work
-other_work known (Ask.Lock row) say none work other = work
-other_work known (Ask.Refresh token time) say none work other = work
-other_work known (Ask.Unlock token) say none work other = work
-other_work known Ask.Locks say none work other = work
-other_work known (Ask.List k after) say none work other = other
-other_work known (Ask.Range pack offset len) say none work other = other
-other_work known (Ask.Put token k n x) say none work other = other
-other_work known (Ask.Delete token k n) say none work other = other
-other_work known (Ask.Upgrade token) say none work other = other

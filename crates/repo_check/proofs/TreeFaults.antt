@@ -24,8 +24,9 @@ use Rattle.repo_check.specs.declared.keeping.Kept.{Kept}
 use Rattle.repo_check.specs.declared.visiting.Gift.{Gift}
 use Rattle.repo_check.specs.declared.visiting.Visit.{Visit}
 use Rattle.repo_check.proofs.Ascending.{may_nodes, may_order, next_follows}
-use Rattle.repo_check.proofs.Gathered.{contains_of, given_of, lies_of}
-use Rattle.repo_check.proofs.Reached.{deepest_by, followed_by, found_of, of_deepest, of_followed, settled}
+use Rattle.repo_check.proofs.Gathered.{came_in, contains_of, given_of, lies_of}
+use Rattle.repo_check.proofs.Led.{deepest_by, followed_by}
+use Rattle.repo_check.proofs.Reached.{found_of, of_deepest, of_followed, settled}
 use Rattle.repo_check.proofs.KeptReads.{kept_part, no_part_said, part_kept, part_said}
 
 no_some : {X : Type 0} (o : Option X) (x : X) → o ≡ None → o ≡ Some x → ⊥
@@ -55,7 +56,7 @@ module _ (rounds : RoundsView) (walk : WalkView) (es : Trace) (s : IsSurveyed ro
   A = answers_in s
 
   given : AreGivenFacts A walk.known.facts
-  given fact = (given_of rounds walk es s fact, contains_of rounds walk es s fact)
+  given fact = (given_of rounds walk es (came_in s) fact, contains_of rounds walk es (came_in s) fact)
 
   -- ---- a tree that breaks its directory is ill
 
@@ -72,8 +73,8 @@ module _ (rounds : RoundsView) (walk : WalkView) (es : Trace) (s : IsSurveyed ro
   wrong_parts : (v : Visit) (n : Name) → GoesOnWrong walk.known.kept v n → GoesWrong 2 T v.tree n
   wrong_parts v n (before, behind, is, next, there, (right, wrong)) =
       let goes = (next_follows before v.follows n next).1 in
-      let first = kept_part rounds walk es s v.tree before is (λ m. absurd (let e = sym goes ∙ m in cc e)) in
-      let second = kept_part rounds walk es s n behind there right in
+      let first = kept_part rounds walk es (came_in s) v.tree before is (λ m. absurd (let e = sym goes ∙ m in cc e)) in
+      let second = kept_part rounds walk es (came_in s) n behind there right in
       (first.0, second.0, tree_next behind.joint.next, subst (λ o. IsPart T v.tree first.0 o) (ap tree_next goes) first.1, second.1, wrong_order first.0 second.0 before.joint.ends behind.joint.ends first.2 second.2 wrong)
 
   module _ (place : Place) (a : Answer) (kept : Kept) (is : walk.known.kept a.name ≡ Some kept) (r : IsReadAs walk.known.facts place a kept true) where
@@ -86,11 +87,11 @@ module _ (rounds : RoundsView) (walk : WalkView) (es : Trace) (s : IsSurveyed ro
     broken_ill : (v : Visit) → Contains visits v → Breaks walk.known.kept v a.name → IsIllTree A a.name r.bytes r.nodes
     broken_ill v c (inl ((k, at, inl (deep, some)), same)) =
         let full : kept.links.is_bare ≡ false = ap (λ (z : Kept). z.links.is_bare) (sym (own v k same at)) ∙ some in
-        inl (subst (λ m. IsDeepest A m) same (deepest_by rounds walk es s v c (deep_at v c deep)), λ none. no_yes kept.links.is_bare full (r.lead.bare.1 none))
+        inl (subst (λ m. IsDeepest A m) same (deepest_by rounds walk es (came_in s) v c (deep_at v c deep)), λ none. no_yes kept.links.is_bare full (r.lead.bare.1 none))
     broken_ill v c (inl ((k, at, inr (follows, bad)), same)) =
         let no = no_part_said r.bytes r.nodes kept.joint.next r.says (ap (λ (z : Kept). z.joint.next) (sym (own v k same at)) ∙ bad) in
-        inr (inr (inl (subst (λ m. IsFollowed A m) same (followed_by rounds walk es s v c follows), no)))
-    broken_ill v c (inr wrong) = inr (inr (inr (v.tree, followed_by rounds walk es s v c (next_follows wrong.0 v.follows a.name wrong.3).0, wrong_parts v a.name wrong)))
+        inr (inr (inl (subst (λ m. IsFollowed A m) same (followed_by rounds walk es (came_in s) v c follows), no)))
+    broken_ill v c (inr wrong) = inr (inr (inr (v.tree, followed_by rounds walk es (came_in s) v c (next_follows wrong.0 v.follows a.name wrong.3).0, wrong_parts v a.name wrong)))
 
     -- ---- one that doesn't is well
 
@@ -112,8 +113,8 @@ module _ (rounds : RoundsView) (walk : WalkView) (es : Trace) (s : IsSurveyed ro
       onward : (before : Name) → IsFollowed A before → GoesWrong 2 T before a.name → ⊥
       onward before f (nodes, more, next, first, second, wrong) =
           let v = of_followed rounds walk es s before f in
-          let one = part_kept rounds walk es s before nodes (Some a.name) first in
-          let two = part_kept rounds walk es s a.name more next second in
+          let one = part_kept rounds walk es (came_in s) before nodes (Some a.name) first in
+          let two = part_kept rounds walk es (came_in s) a.name more next second in
           let goes : next_kept one.kept v.0.follows ≡ Some a.name = ap (λ f. next_kept one.kept f) v.3 ∙ one.next_is in
           let stands : ¬ MayFollow one.kept.joint.ends two.kept.joint.ends = λ may. ⊎_elim (may_nodes nodes more one.kept.joint.ends two.kept.joint.ends one.ends two.ends may)
           (λ unordered. unordered (may_order nodes more one.kept.joint.ends two.kept.joint.ends first.reads.tree.ordered second.reads.tree.ordered one.ends two.ends may)) wrong in
@@ -141,7 +142,7 @@ module _ (rounds : RoundsView) (walk : WalkView) (es : Trace) (s : IsSurveyed ro
       inr (
         seen.place,
         a,
-        subst (λ m. LiesAt A Tree m seen.place) same (lies_of rounds walk es s Tree a.name seen.place seen.least),
+        subst (λ m. LiesAt A Tree m seen.place) same (lies_of rounds walk es (came_in s) Tree a.name seen.place seen.least),
         c,
         same,
         subst (λ m. TreeIs A seen.place a (tree_fault (walk.known.faults m) (walk.known.kept m) broken)) same is,
@@ -154,7 +155,7 @@ module _ (rounds : RoundsView) (walk : WalkView) (es : Trace) (s : IsSurveyed ro
   by_settled n broken b None None fe le (inl read) = absurd (no_some (walk.known.kept n) read.0 le read.1)
   by_settled n broken b None None fe le (inr (inl faulty)) = absurd (no_some (walk.known.faults n) faulty.0 fe faulty.1)
   by_settled n broken b None None fe le (inr (inr nowhere)) =
-      let is : BlobIs A Tree n (Some FaultKind.Unindexed) = inl (refl, λ place g. nowhere place (contains_of rounds walk es s (fact_of Tree n place) g)) in
+      let is : BlobIs A Tree n (Some FaultKind.Unindexed) = inl (refl, λ place g. nowhere place (contains_of rounds walk es (came_in s) (fact_of Tree n place) g)) in
       subst (λ f. BlobIs A Tree n (tree_fault f (walk.known.kept n) broken)) (sym fe) (subst (λ l. BlobIs A Tree n (tree_fault None l broken)) (sym le) is)
 
 pub trees_are_told : TreesAreTold
@@ -162,7 +163,7 @@ trees_are_told rounds walk es s n broken reached b =
     by_settled rounds walk es s n broken b (walk.known.faults n) (walk.known.kept n) refl refl (settled rounds walk es s n (found_of rounds walk es s Tree n reached))
 
 pub content_is_told : ContentIsTold
-content_is_told rounds walk es s n None h = (h.0, lies_of rounds walk es s Content n h.0 h.1)
+content_is_told rounds walk es s n None h = (h.0, lies_of rounds walk es (came_in s) Content n h.0 h.1)
 content_is_told rounds walk es s n (Some what) h =
-    let lost : BlobIs (answers_in s) Content n (Some FaultKind.Unindexed) = λ place g. h.1 place (contains_of rounds walk es s (fact_of Content n place) g) in
+    let lost : BlobIs (answers_in s) Content n (Some FaultKind.Unindexed) = λ place g. h.1 place (contains_of rounds walk es (came_in s) (fact_of Content n place) g) in
     subst (λ w. BlobIs (answers_in s) Content n (Some w)) (sym h.0) lost

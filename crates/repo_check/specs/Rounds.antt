@@ -7,7 +7,7 @@ use Rattle.repo_wire.specs.declared.messages.Ask.{Ask}
 use Rattle.repo_wire.specs.declared.messages.Say.{Say}
 use Rattle.repo_store.specs.Pages.{Above, Has}
 use Rattle.repo_session.specs.Versions.{upto}
-use Rattle.repo_session.specs.Ends.{IsOfOtherVersion, IsSenseless}
+use Rattle.repo_session.specs.Ends.{EndsAtOnce, IsOfOtherVersion, IsSenseless}
 use Rattle.repo_session.specs.Jobs.{IsShort}
 use Rattle.repo_session.specs.Order.{Task, IsWorking, May}
 use Rattle.repo_session.specs.Rolls.{IsPaged, IsRolled}
@@ -92,6 +92,17 @@ TurnsOn task k round Turn.Senseless e es = IsSenseless (upto task.versions) e.as
 TurnsOn task k round Turn.Version e es = IsOfOtherVersion (upto task.versions) e.ask e.say
 TurnsOn task k round Turn.Away e es = TellsNothing e.ask e.say
 
+-- the turn ends the round by this reply: by what is of a version that isn't known, by a page that makes no sense, or by passing it on
+abbrev pub IsEndTurn : ℕ → Ask → Say → Turn → Type 0
+IsEndTurn known ask say Turn.Senseless = IsSenseless known ask say
+IsEndTurn known ask say Turn.Version = IsOfOtherVersion known ask say
+IsEndTurn known ask say Turn.Away = ⊤
+IsEndTurn known ask say _ = ⊥
+
+-- where a check ends at once on the reply, the turn ends the round by that
+abbrev pub HeedsTurn : ℕ → Ask → Say → Turn → Type 0
+HeedsTurn known ask say turn = EndsAtOnce known true (silent ask say) → IsEndTurn known ask say turn
+
 -- the round goes on, or is over
 abbrev pub GoesOn : Turn → Type 0
 GoesOn (Turn.Ask ask) = ⊤
@@ -138,10 +149,6 @@ TakesObject k Gives old n say turn new = (task : Task) (token : Token) (es : Tra
 abbrev pub TakesSnapshot : Versions → RoundView Root → Name → Say → Turn → RoundView Root → Type 0
 TakesSnapshot versions old n say turn new = (task : Task) (token : Token) (es : Trace) → task.versions ≡ versions → IsWorking task token (silent (Ask.Get Kind.Snapshot n) say ∷ es) → IsGetting Kind.Snapshot old n es → AreNoted Kind.Snapshot IsRootOf old.names old.notes es
     → TurnsOn task Kind.Snapshot new turn (silent (Ask.Get Kind.Snapshot n) say) es × (GoesOn turn → AreNoted Kind.Snapshot IsRootOf new.names new.notes (silent (Ask.Get Kind.Snapshot n) say ∷ es))
-
--- one that brings a snapshot of a version that isn't among these comes to that
-abbrev pub HeedsSnapshot : Versions → Name → Say → Turn → Type 0
-HeedsSnapshot versions n say turn = IsOfOtherVersion (upto versions) (Ask.Get Kind.Snapshot n) say → turn ≡ Turn.Version
 
 -- there is one note more
 pub record HasOneMore {T : Type 0} (old new : RoundView T) : Type 0 where

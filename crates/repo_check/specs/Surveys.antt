@@ -15,9 +15,9 @@ use Rattle.repo_session.specs.declared.versions.Versions.{Versions}
 use Rattle.repo_session.specs.declared.outcomes.CheckFault.{CheckFault}
 use Rattle.repo_session.specs.declared.outcomes.FaultKind.{FaultKind}
 use Rattle.repo_session.specs.Blobs.{range_of}
-use Rattle.repo_session.specs.Ends.{IsOfOtherVersion, IsSenseless}
+use Rattle.repo_session.specs.Ends.{EndsAtOnce, IsOfOtherVersion, IsSenseless}
 use Rattle.repo_session.specs.Jobs.{IsShort}
-use Rattle.repo_session.specs.Order.{Task, IsWorking, May, last_of, opened, IsWork}
+use Rattle.repo_session.specs.Order.{Task, IsWorking, May, last_of, opened}
 use Rattle.repo_session.specs.Traces.{Exchange, Exchanged, Trace, silent}
 use Rattle.repo_reach.specs.declared.roots.Root.{Root}
 use Rattle.repo_tree.specs.Spelling.{greatest_depth}
@@ -154,9 +154,16 @@ abbrev pub TakesSurveyBy : Versions → RoundsView → WalkView → Ask → Say 
 TakesSurveyBy versions rounds walk ask say next rounds' walk' = (task : Task) (token : Token) (es : Trace) → task.versions ≡ versions → IsWorking task token (silent ask say ∷ es) → May task es ask → Surveys rounds walk ask es
     → SurveysOn task rounds' walk' next (silent ask say) es
 
--- a reply that brings what is of a version that isn't among these comes to that
-abbrev pub SurveyHeeds : Versions → Ask → Say → Next → Type 0
-SurveyHeeds versions ask say next = IsWork ask → IsOfOtherVersion (upto versions) ask say → next ≡ Next.Version
+-- what comes next ends the survey by this reply: by what is of a version that isn't known, by a page that makes no sense, or by passing it on
+abbrev pub IsEndNext : ℕ → Ask → Say → Next → Type 0
+IsEndNext known ask say Next.Senseless = IsSenseless known ask say
+IsEndNext known ask say Next.Version = IsOfOtherVersion known ask say
+IsEndNext known ask say Next.Away = ⊤
+IsEndNext known ask say _ = ⊥
+
+-- where a check ends at once on the reply, what comes next ends the survey by that
+abbrev pub HeedsNext : ℕ → Ask → Say → Next → Type 0
+HeedsNext known ask say next = EndsAtOnce known true (silent ask say) → IsEndNext known ask say next
 
 -- ---- the walk
 

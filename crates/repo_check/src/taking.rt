@@ -7,12 +7,13 @@ ghost use Rattle.repo_wire.specs.declared.messages.Ask.{Ask};
 ghost use Rattle.repo_wire.specs.declared.messages.Say.{Say};
 ghost use Rattle.repo_session.specs.Order.{last_of};
 ghost use Rattle.repo_session.specs.Traces.{Trace};
+ghost use Rattle.repo_session.specs.Versions.{upto};
 ghost use Rattle.repo_check.specs.Rounds.{IsShortTurn};
 ghost use Rattle.repo_index.specs.declared.facts.Fact.{Fact};
 ghost use Rattle.repo_check.specs.Walks.{walk_of};
 ghost use Rattle.repo_check.specs.declared.rounds.Turn.{Turn};
 ghost use Rattle.repo_check.specs.declared.surveys.Next.{Next};
-ghost use Rattle.repo_check.specs.Surveys.{WalkBegins, GoesAfter, GoesToTrees, WalkHasBegun, IsShortNext, SurveyHasTaken, SurveyHeeds, SurveyKnows, SurveyTakes, SurveyTakesBy, next_of, rounds_of, StaysAtPage, StaysAtTree};
+ghost use Rattle.repo_check.specs.Surveys.{WalkBegins, GoesAfter, GoesToTrees, WalkHasBegun, HeedsNext, IsShortNext, SurveyHasTaken, SurveyKnows, SurveyTakes, SurveyTakesBy, next_of, rounds_of, StaysAtPage, StaysAtTree};
 
 use crate::gathering::{lookup_of, visits_of};
 use crate::knowing::note_of;
@@ -57,6 +58,7 @@ impl Survey {
     /// Takes the reply to the request for a page of snapshots. It fails for memory alone, and then nothing changed.
     fn take_snapshot_page(&mut self, say: &Say) -> Result<Next, AllocError>
         ensures takes { IfOk result (λ next. (after : Option Name) → SurveyTakes self.old (Ask.List Kind.Snapshot after) say.now next self.new) }
+        ensures heeds { IfOk result (λ next. (known : ℕ) (after : Option Name) → HeedsNext known (Ask.List Kind.Snapshot after) say.now next) }
         ensures more { IfOk result (λ next. next ≢ Next.Over) }
         ensures short { IfOk result IsShortNext }
         ensures same { OnErr result (rounds_of self.new ≡ rounds_of self.old) }
@@ -75,7 +77,7 @@ impl Survey {
         say: &Say,
     ) -> Result<Next, AllocError>
         ensures takes { IfOk result (λ next. SurveyTakesBy versions self.old (Ask.Get Kind.Snapshot name) say.now next self.new) }
-        ensures heeds { IfOk result (SurveyHeeds versions (Ask.Get Kind.Snapshot name) say.now) }
+        ensures heeds { IfOk result (HeedsNext (upto versions) (Ask.Get Kind.Snapshot name) say.now) }
         ensures more { IfOk result (λ next. next ≢ Next.Over) }
         ensures short { IfOk result IsShortNext }
         ensures same { OnErr result (rounds_of self.new ≡ rounds_of self.old) }
@@ -88,6 +90,7 @@ impl Survey {
     /// Takes the reply to the request for a page of indexes. It fails for memory alone, and then nothing changed.
     fn take_index_page(&mut self, say: &Say) -> Result<Next, AllocError>
         ensures takes { IfOk result (λ next. (after : Option Name) → SurveyTakes self.old (Ask.List Kind.Index after) say.now next self.new) }
+        ensures heeds { IfOk result (λ next. (known : ℕ) (after : Option Name) → HeedsNext known (Ask.List Kind.Index after) say.now next) }
         ensures more { IfOk result (λ next. next ≢ Next.Over) }
         ensures short { IfOk result IsShortNext }
         ensures same { OnErr result (rounds_of self.new ≡ rounds_of self.old) }
@@ -100,6 +103,7 @@ impl Survey {
     /// Takes the reply to the request for an index. It fails for memory alone, and then nothing changed.
     fn take_index(&mut self, name: Name, say: &Say) -> Result<Next, AllocError>
         ensures takes { IfOk result (λ next. SurveyTakes self.old (Ask.Get Kind.Index name) say.now next self.new) }
+        ensures heeds { IfOk result (λ next. (known : ℕ) → HeedsNext known (Ask.Get Kind.Index name) say.now next) }
         ensures more { IfOk result (λ next. next ≢ Next.Over) }
         ensures short { IfOk result IsShortNext }
         ensures same { OnErr result (rounds_of self.new ≡ rounds_of self.old) }
@@ -151,6 +155,7 @@ impl Survey {
     /// Takes the reply to the request for a page of packs. It fails for memory alone, and then nothing changed.
     fn take_pack_page(&mut self, say: &Say) -> Result<Next, AllocError>
         ensures takes { IfOk result (λ next. (after : Option Name) → SurveyTakes self.old (Ask.List Kind.Pack after) say.now next self.new) }
+        ensures heeds { IfOk result (λ next. (known : ℕ) (after : Option Name) → HeedsNext known (Ask.List Kind.Pack after) say.now next) }
         ensures over { IfOk result (λ next. next ≡ Next.Over → (after : Option Name) → SurveyHasTaken self.old (Ask.List Kind.Pack after) self.new) }
         ensures short { IfOk result IsShortNext }
         ensures same { OnErr result (StaysAtPage Kind.Pack self.old self.new) }
@@ -162,6 +167,7 @@ impl Survey {
     /// Takes the reply to the request for a pack. It fails for memory alone, and then nothing changed.
     fn take_pack(&mut self, name: Name, say: &Say) -> Result<Next, AllocError>
         ensures takes { IfOk result (λ next. SurveyTakes self.old (Ask.Get Kind.Pack name) say.now next self.new) }
+        ensures heeds { IfOk result (λ next. (known : ℕ) → HeedsNext known (Ask.Get Kind.Pack name) say.now next) }
         ensures over { IfOk result (λ next. next ≡ Next.Over → SurveyHasTaken self.old (Ask.Get Kind.Pack name) self.new) }
         ensures short { IfOk result IsShortNext }
         ensures same { OnErr result (rounds_of self.new ≡ rounds_of self.old) }
@@ -179,6 +185,7 @@ impl Survey {
     /// Takes the reply to the request for a tree. It fails for memory alone, and then nothing changed.
     fn take_tree(&mut self, say: &Say) -> Result<Next, AllocError>
         ensures takes { IfOk result (λ next. (pack : Name) (offset len : ℕ) → SurveyTakes self.old (Ask.Range pack offset len) say.now next self.new) }
+        ensures heeds { IfOk result (λ next. (known : ℕ) (pack : Name) (offset len : ℕ) → HeedsNext known (Ask.Range pack offset len) say.now next) }
         ensures over { IfOk result (λ next. next ≡ Next.Over → (pack : Name) (offset len : ℕ) → SurveyHasTaken self.old (Ask.Range pack offset len) self.new) }
         ensures short { IfOk result IsShortNext }
         ensures same { OnErr result (StaysAtTree self.old self.new) }
@@ -197,6 +204,7 @@ impl Survey {
     /// Takes the reply to the request for a page of a kind. It fails for memory alone, and then what was known is known.
     fn take_page(&mut self, kind: Kind, say: &Say) -> Result<Next, AllocError>
         ensures takes { IfOk result (λ next. (after : Option Name) → SurveyTakes self.old (Ask.List kind after) say.now next self.new) }
+        ensures heeds { IfOk result (λ next. (known : ℕ) (after : Option Name) → HeedsNext known (Ask.List kind after) say.now next) }
         ensures over { IfOk result (λ next. next ≡ Next.Over → (after : Option Name) → SurveyHasTaken self.old (Ask.List kind after) self.new) }
         ensures short { IfOk result IsShortNext }
         ensures same { OnErr result (StaysAtPage kind self.old self.new) }
@@ -218,7 +226,7 @@ impl Survey {
         say: &Say,
     ) -> Result<Next, AllocError>
         ensures takes { IfOk result (λ next. SurveyTakesBy versions self.old (Ask.Get kind name) say.now next self.new) }
-        ensures heeds { IfOk result (SurveyHeeds versions (Ask.Get kind name) say.now) }
+        ensures heeds { IfOk result (HeedsNext (upto versions) (Ask.Get kind name) say.now) }
         ensures over { IfOk result (λ next. next ≡ Next.Over → SurveyHasTaken self.old (Ask.Get kind name) self.new) }
         ensures short { IfOk result IsShortNext }
         ensures same { OnErr result (rounds_of self.new ≡ rounds_of self.old) }
@@ -234,7 +242,7 @@ impl Survey {
     /// known is known.
     pub fn take(&mut self, versions: Versions, ask: &Ask, say: &Say) -> Result<Next, AllocError>
         ensures takes { IfOk result (λ next. SurveyTakesBy versions self.old ask.now say.now next self.new) }
-        ensures heeds { IfOk result (SurveyHeeds versions ask.now say.now) }
+        ensures heeds { IfOk result (HeedsNext (upto versions) ask.now say.now) }
         ensures over { IfOk result (λ next. next ≡ Next.Over → SurveyHasTaken self.old ask.now self.new) }
         ensures short { IfOk result IsShortNext }
         ensures knows { OnErr result ((es : Trace) → SurveyKnows self.old ask.now es → SurveyKnows self.new ask.now es) }

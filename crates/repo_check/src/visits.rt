@@ -1,9 +1,11 @@
 //! What the replies to the requests for objects come to.
 
-ghost use Rattle.std.specs.Prelude.{◌≡◌, IfOk, OnErr};
+ghost use Rattle.std.specs.Prelude.{◌≡◌, ℕ, IfOk, OnErr};
 ghost use Rattle.repo_name.specs.declared.kinds.Kind.{Kind};
+ghost use Rattle.repo_wire.specs.declared.messages.Ask.{Ask};
+ghost use Rattle.repo_session.specs.Versions.{upto};
 ghost use Rattle.repo_check.specs.Arrivals.{IsIndexOf, IsPackOf};
-ghost use Rattle.repo_check.specs.Rounds.{HasOneMore, HeedsSnapshot, IsShortTurn, TakesObject, TakesSnapshot, round_of};
+ghost use Rattle.repo_check.specs.Rounds.{HasOneMore, HeedsTurn, IsShortTurn, TakesObject, TakesSnapshot, round_of};
 ghost use Rattle.repo_check.specs.declared.rounds.Turn.{Turn};
 
 use crate::objects::{
@@ -27,7 +29,7 @@ pub fn take_snapshot(
     say: &Say,
 ) -> Result<Turn, AllocError>
     ensures takes { IfOk result (λ turn. TakesSnapshot versions (round_of round.old) name say.now turn (round_of round.new)) }
-    ensures heeds { IfOk result (HeedsSnapshot versions name say.now) }
+    ensures heeds { IfOk result (HeedsTurn (upto versions) (Ask.Get Kind.Snapshot name) say.now) }
     ensures short { IfOk result IsShortTurn }
     ensures same { OnErr result (round_of round.new ≡ round_of round.old) }
 {
@@ -47,6 +49,7 @@ pub fn take_index(
     say: &Say,
 ) -> Result<Turn, AllocError>
     ensures takes { IfOk result (λ turn. TakesObject Kind.Index IsIndexOf (round_of round.old) name say.now turn (round_of round.new)) }
+    ensures heeds { IfOk result (λ turn. (known : ℕ) → HeedsTurn known (Ask.Get Kind.Index name) say.now turn) }
     ensures short { IfOk result IsShortTurn }
     ensures same { OnErr result (round_of round.new ≡ round_of round.old) }
 {
@@ -65,6 +68,7 @@ pub fn take_pack(
     say: &Say,
 ) -> Result<Turn, AllocError>
     ensures takes { IfOk result (λ turn. TakesObject Kind.Pack IsPackOf (round_of round.old) name say.now turn (round_of round.new)) }
+    ensures heeds { IfOk result (λ turn. (known : ℕ) → HeedsTurn known (Ask.Get Kind.Pack name) say.now turn) }
     ensures short { IfOk result IsShortTurn }
     ensures noted { IfOk result (λ turn. turn ≡ Turn.All → HasOneMore (round_of round.old) (round_of round.new)) }
     ensures same { OnErr result (round_of round.new ≡ round_of round.old) }

@@ -1,12 +1,12 @@
 -- Where a backup that feeds itself stands, one that is fed stands with some items.
-use Rattle.std.proofs.Common.{arith, ◌≡◌, ◌⊎◌, ◌+◌, ◌∷◌, [], ℕ, List, length, Option, Some, None, refl, sym, ap, subst, inl, inr, lit≤, ◌∙◌}
+use Rattle.std.proofs.Common.{arith, ◌≡◌, ◌⊎◌, ◌+◌, ◌∷◌, [], ℕ, Bool, List, length, Option, Some, None, refl, sym, ap, subst, inl, inr, lit≤, ◌∙◌}
 use Rattle.std.proofs.lemmas.Option.{none-some, same_Some}
 use Rattle.repo_name.specs.declared.tokens.Token.{Token}
 use Rattle.repo_wire.specs.declared.messages.Ask.{Ask}
 use Rattle.repo_wire.specs.declared.messages.Request.{Request}
 use Rattle.repo_wire.specs.declared.messages.Say.{Say}
 use Rattle.repo_session.specs.Askers.{Asker}
-use Rattle.repo_session.specs.Ends.{Concludes, MayConclude, NumbersAreSpent, IsCause, IsUnderstood, AreUnderstood, before_unlock, without_unlock}
+use Rattle.repo_session.specs.Ends.{Concludes, MayConclude, NumbersAreSpent, IsCause, MayFollow, AreHeeded, before_unlock, without_unlock}
 use Rattle.repo_session.specs.Feeds.{Fed}
 use Rattle.repo_session.specs.Obedience.{holds_whole}
 use Rattle.repo_session.specs.Order.{Task, Holds, IsPermitted, IsUnlock, IsWork, May, Obeys, ticketed}
@@ -45,15 +45,15 @@ so_cause known [] end h = h
 so_cause known (e ∷ fs) end (inl h) = inl h
 so_cause known (e ∷ fs) end (inr (is, spent)) = inr (is, so_spent (e ∷ fs) spent)
 
--- what came with what was fed was understood, where it was without it
-so_each_understood : (known : ℕ) (fs : Trace) → Each (IsUnderstood known) (unfed fs) → Each (IsUnderstood known) fs
-so_each_understood known [] h = h
-so_each_understood known (e ∷ fs) h = (h.0, so_each_understood known fs h.1)
+-- a job may go on after each exchange with what was fed, where it may without it
+so_each_follows : (known : ℕ) (notes : Bool) (fs : Trace) → Each (MayFollow known notes) (unfed fs) → Each (MayFollow known notes) fs
+so_each_follows known notes [] h = h
+so_each_follows known notes (e ∷ fs) h = (h.0, so_each_follows known notes fs h.1)
 
--- so was all of it, but for what ended the job
-so_understood : (known : ℕ) (outcome : Option Outcome) (fs : Trace) → AreUnderstood known outcome (unfed fs) → AreUnderstood known outcome fs
-so_understood known outcome [] h = h
-so_understood known outcome (e ∷ fs) h = (h.0, so_each_understood known fs h.1)
+-- so it heeds all of them
+so_heeded : (known : ℕ) (notes : Bool) (outcome : Option Outcome) (fs : Trace) → AreHeeded known notes outcome (unfed fs) → AreHeeded known notes outcome fs
+so_heeded known notes outcome [] h = h
+so_heeded known notes outcome (e ∷ fs) h = (h.0, so_each_follows known notes fs h.1)
 
 unfed_first : (e : Exchange) (es : Trace) → unfed (e ∷ es) ≡ e ∷ es → giving e.ask e.say e.emitted ≡ e
 unfed_first e es same = cc
@@ -250,8 +250,8 @@ module _ (who : Asker) (whole : Option (List Fed)) where
       settled = λ none no. absurd (h.settled none no);
       concluded = concluded;
       released = λ none is token holds. so_spent f.fs (subst NumbersAreSpent (sym f.same) (h.released none is token (subst (λ x. Holds (piece_task who) token x) f.same (holds_so (piece_task who) token f.fs holds))));
-      understood = so_understood (upto (piece_task who).versions) outcome (before_unlock f.fs)
-          (subst (λ x. AreUnderstood (upto (piece_task who).versions) outcome x) (before_so f.fs) (subst (λ x. AreUnderstood (upto (piece_task who).versions) outcome (before_unlock x)) (sym f.same) h.understood));
+      heeded = so_heeded (upto (piece_task who).versions) (piece_task who).notes outcome (before_unlock f.fs)
+          (subst (λ x. AreHeeded (upto (piece_task who).versions) (piece_task who).notes outcome x) (before_so f.fs) (subst (λ x. AreHeeded (upto (piece_task who).versions) (piece_task who).notes outcome (before_unlock x)) (sym f.same) h.heeded));
       beside = h.beside;
       ending = h.ending;
     };

@@ -6,7 +6,7 @@ use Rattle.repo_wire.specs.declared.messages.Request.{Request}
 use Rattle.repo_wire.specs.declared.messages.Say.{Say}
 use Rattle.repo_session.specs.Askers.{Asker}
 use Rattle.repo_session.specs.Clients.{IsNextRequest, IsObedientBy, TellsToken}
-use Rattle.repo_session.specs.Ends.{AreUnderstood, Concludes, MayConclude, before_unlock, without_unlock}
+use Rattle.repo_session.specs.Ends.{AreHeeded, Concludes, MayConclude, before_unlock, without_unlock}
 use Rattle.repo_session.specs.Feeds.{Fed}
 use Rattle.repo_session.specs.Order.{IsPermitted, May, Obeys}
 use Rattle.repo_session.specs.Sessions.{who_in, next_in, ended_in, token_in}
@@ -21,7 +21,7 @@ use Rattle.repo_feeding.specs.FedRules.{IsAsTold, IsOnTheWay, IsFedLate, IsFedSo
 use Rattle.repo_feeding.specs.FedStates.{Feeder, job_of, IsFedRight, AreFedRight, FitsFed}
 use Rattle.repo_feeding.specs.Sources.{whole_of}
 use Rattle.repo_feeding.specs.Unfed.{unfed}
-use Rattle.repo_feeding.specs.Unseen.{unfed_length, exchanged_so, so_exchanged, may_so, so_holds, before_so, spent_so, cause_so, understood_so}
+use Rattle.repo_feeding.specs.Unseen.{unfed_length, exchanged_so, so_exchanged, may_so, so_holds, before_so, spent_so, cause_so, heeded_so}
 
 -- before anything was fed nothing ended
 pub told_first : (whole : Option (List Fed)) → IsAsTold whole at_root
@@ -127,7 +127,7 @@ module _ (who : Asker) (whole : Option (List Fed)) (gave : Bool) where
     settled = λ none no. full (none, no);
     concluded = λ o is. may_conclude_so fs o right h.obeys (h.concluded o is);
     released = λ none is token holds. spent_so fs (h.released none is token (so_holds (piece_task who) token fs late holds));
-    understood = subst (λ es. AreUnderstood (upto (piece_task who).versions) outcome es) (sym (before_so fs)) (understood_so (upto (piece_task who).versions) outcome (before_unlock fs) h.understood);
+    heeded = subst (λ es. AreHeeded (upto (piece_task who).versions) false outcome es) (sym (before_so fs)) (heeded_so (upto (piece_task who).versions) false outcome (before_unlock fs) h.heeded);
     beside = h.beside;
     ending = h.ending;
   }

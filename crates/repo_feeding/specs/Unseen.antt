@@ -1,5 +1,5 @@
 -- What was fed isn't seen by what is said of the exchanges: what holds of them with it holds of them without it.
-use Rattle.std.specs.Prelude.{◌≡◌, ◌≢◌, ◌≤◌, ◌++◌, ◌∷◌, [], ℕ, true, List, cond, length, Option, None}
+use Rattle.std.specs.Prelude.{◌≡◌, ◌≢◌, ◌≤◌, ◌++◌, ◌∷◌, [], ℕ, Bool, true, List, cond, length, Option, None}
 use Rattle.std.proofs.Common.{refl, sym, ap, subst, suc, inl, inr, arith, lit≤, ◌∙◌}
 use Rattle.repo_name.specs.declared.kinds.Kind.{Kind}
 use Rattle.repo_name.specs.declared.names.Name.{Name}
@@ -9,7 +9,7 @@ use Rattle.repo_wire.specs.declared.messages.Say.{Say}
 use Rattle.repo_index.specs.declared.facts.Fact.{Fact}
 use Rattle.repo_store.specs.Pages.{Has, NamesAscend}
 use Rattle.repo_session.specs.Feeds.{Fed}
-use Rattle.repo_session.specs.Ends.{NumbersAreSpent, IsCause, IsUnderstood, AreUnderstood, without_unlock, before_unlock}
+use Rattle.repo_session.specs.Ends.{NumbersAreSpent, IsCause, MayFollow, AreHeeded, without_unlock, before_unlock}
 use Rattle.repo_session.specs.Order.{Task, locked, lock_row, opened, IsUnfenced, IsNoUnlock, StaysHeld, Holds, IsWorking, IsNextPage, MayGet, MayRange, May, last_of}
 use Rattle.repo_session.specs.Traces.{Each, Exchange, Trace, Exchanged, giving, silent, names_in, page_names, is_complete, is_last_page, Rise, Lists, ReadFact}
 use Rattle.repo_session.specs.declared.outcomes.End.{End}
@@ -171,12 +171,12 @@ cause_so known [] end h = h
 cause_so known (e ∷ es) end (inl h) = inl h
 cause_so known (e ∷ es) end (inr (is, spent)) = inr (is, spent_so (e ∷ es) spent)
 
--- what came without what was fed was understood, where it was with it
-each_understood_so : (known : ℕ) (es : Trace) → Each (IsUnderstood known) es → Each (IsUnderstood known) (unfed es)
-each_understood_so known [] h = h
-each_understood_so known (e ∷ es) h = (h.0, each_understood_so known es h.1)
+-- a job may go on after each exchange without what was fed, where it may with it
+each_follows_so : (known : ℕ) (notes : Bool) (es : Trace) → Each (MayFollow known notes) es → Each (MayFollow known notes) (unfed es)
+each_follows_so known notes [] h = h
+each_follows_so known notes (e ∷ es) h = (h.0, each_follows_so known notes es h.1)
 
--- so was all of it, but for what ended the job
-pub understood_so : (known : ℕ) (outcome : Option Outcome) (es : Trace) → AreUnderstood known outcome es → AreUnderstood known outcome (unfed es)
-understood_so known outcome [] h = h
-understood_so known outcome (e ∷ es) h = (h.0, each_understood_so known es h.1)
+-- so it heeds all of them
+pub heeded_so : (known : ℕ) (notes : Bool) (outcome : Option Outcome) (es : Trace) → AreHeeded known notes outcome es → AreHeeded known notes outcome (unfed es)
+heeded_so known notes outcome [] h = h
+heeded_so known notes outcome (e ∷ es) h = (h.0, each_follows_so known notes es h.1)

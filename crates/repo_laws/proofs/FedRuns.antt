@@ -141,7 +141,7 @@ restored_fed who whole from mid to failed failing late last talk talk' next next
     let fs = s.fs in
     let l = left_fed who whole from mid failed failing talk next name blobs bytes sound ran s apart in
     let given : rebuilt (emitted_in (trace_of talk')) ≡ spelled_by (fed_in l.older) = handed_all (record { who = asker; snapshot = name }) (spelled_by (fed_in l.older)) from mid (IsMadeOfItems fs) (IsSent fs next) apart l.there l.names l.source
-    talk' to count is'.obeys (led mid talk' to ran'.run) (is'.concluded (Outcome.Complete count) refl) in
+    talk' to count is'.obeys (led mid talk' to ran'.run) (is'.concluded (Outcome.Complete count) refl).0 in
     let spelled : rebuilt (emitted_in (trace_of talk')) ≡ spelled_by (fed_in fs) = given ∙ ap spelled_by (sym l.same) in
     (spelled, of_source whole fs (rebuilt (emitted_in (trace_of talk'))) s.told (over_on fs l.older l.same l.over) spelled)
 

@@ -49,7 +49,8 @@ use Rattle.repo_restore.specs.Laws.{BeginsSnapshot, AreFirstOf}
 use Rattle.repo_restore.proofs.Firsts.{first_is_of_all}
 use Rattle.repo_restore.proofs.Replied.{begun_of}
 use Rattle.repo_restore.proofs.Advancing.{only_reads}
-use Rattle.repo_restore.specs.Restoring.{Wish, restore_task, IsForBlob, IsRestored, RestoreAllows, RestoreGives}
+use Rattle.repo_restore.specs.Restoring.{Wish, restore_task, IsRestored, RestoreAllows, RestoreGives}
+use Rattle.repo_session.specs.Ends.{AsksPart}
 
 -- the rule under which a snapshot was put, and what is made by then
 pub record PutThen (entries : List Entry) (es : Trace) (token : Token) (x : List ℕ) : Type 0 where
@@ -133,7 +134,7 @@ module _ (w : Wish) (entries : List Entry) (from mid : Store) (Made : List ℕ �
   -- nothing is given out on the end of the lock
   nothing_given : (e : Exchange) (fs : Trace) (token : Token) → e.ask ≡ Ask.Unlock token → (e.emitted ≡ []) ⊎ RestoreGives w.snapshot fs e → emitted_in (e ∷ fs) ≡ emitted_in fs
   nothing_given e fs token q (inl none) = ap (λ x. emitted_in fs ++ x) none ∙ append-nil (emitted_in fs)
-  nothing_given e fs token q (inr gives) = absurd (subst IsForBlob q gives.0)
+  nothing_given e fs token q (inr gives) = absurd (subst AsksPart q gives.0)
 
   handed_by : (ask : Ask) (turn : Turn) (talk : Talk) (to : Store) (count : ℕ) → turn.request.ask ≡ ask → Obeys (restore_task w) (RestoreAllows w.snapshot) (RestoreGives w.snapshot) (trace_of (turn ∷ talk)) → Led mid (turn ∷ talk) to
       → IsRestored (without_unlock ask (trace_of (turn ∷ talk)) (trace_of talk)) w.snapshot count → rebuilt (emitted_in (trace_of (turn ∷ talk))) ≡ entries
@@ -197,7 +198,7 @@ pub restored_handed : RestoredIsHanded
 restored_handed who entries from mid to failed failing late last talk talk' next next' name blobs bytes count asker sound ran is apart ran' is' =
     let es : Trace = trace_of talk in
     let l = left_by who entries from mid failed failing talk next name blobs bytes sound ran is apart in
-    handed_all (record { who = asker; snapshot = name }) entries from mid (IsMadeOf entries es) (IsSent es next) apart l.there l.names l.source talk' to count is'.obeys (led mid talk' to ran'.run) (is'.concluded (Outcome.Complete count) refl)
+    handed_all (record { who = asker; snapshot = name }) entries from mid (IsMadeOf entries es) (IsSent es next) apart l.there l.names l.source talk' to count is'.obeys (led mid talk' to ran'.run) (is'.concluded (Outcome.Complete count) refl).0
 
 pub restored_first : RestoredIsFirst
 restored_first who entries from mid to failed failing late last talk talk' next next' name blobs bytes asker outcome sound ran is apart ran' is' =

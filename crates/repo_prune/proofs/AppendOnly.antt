@@ -102,7 +102,7 @@ record DeletedBy (es : Trace) (n : Name) : Type 0 where
 deleted_by : (who : Asker) (es : Trace) (n : Name) → Obeys (prune_task who) PruneAllows PruneGives es → AskedToDelete es Kind.Pack n → DeletedBy es n
 deleted_by who [] n o d = absurd d.1
 deleted_by who (e ∷ es) n o (token, inl now) =
-    let rule : MayDeletePack es n = subst (λ a. IsPermitted PruneAllows es a) now o.1 tt in
+    let rule : MayDeletePack es n = (subst (λ a. IsPermitted PruneAllows es a) now o.1 tt).1 in
     record { then = es; rule = rule; among = has_first _ (page_names Kind.Pack e.ask e.say) n rule.among; put = λ t m x p. ⊎_elim (λ here. absurd (cc)) (λ before. before) p }
 deleted_by who (e ∷ es) n o (token, inr before) =
     let d = deleted_by who es n o.3 (token, before) in
@@ -164,7 +164,7 @@ pruned_before who packs bytes (e ∷ es) o none p = ⊎_elim (pruned_none who pa
 
 -- what else a prune tells by its own rule, it doesn't tell of a fit store
 prunes_none : (who : Asker) (es : Trace) → Obeys (prune_task who) PruneAllows PruneGives es → NoneDone es → (outcome : Outcome) → IsPrunedOrMemory (Some outcome) → PruneConcludes (before_unlock es) outcome → PrunesNoPack (Some outcome)
-prunes_none who es o none (Outcome.Pruned packs bytes) well own = inr (inr (bytes, ap (λ n. Outcome.Pruned n bytes) (pruned_before who packs bytes es o none own)))
+prunes_none who es o none (Outcome.Pruned packs bytes) well own = inr (inr (bytes, ap (λ n. Outcome.Pruned n bytes) (pruned_before who packs bytes es o none own.1)))
 prunes_none who es o none (Outcome.Stored name blobs bytes) well own = inl well
 prunes_none who es o none (Outcome.Complete entries) well own = inl well
 prunes_none who es o none (Outcome.Listed rows) well own = inl well
@@ -186,5 +186,5 @@ prune_barred who from to failed talk outcome fit versions appends apart low ran 
     let none = none_done (prune_task who) PruneAllows PruneGives from fit appends talk to h is.obeys in
     let sound = prunes.throughout who from fit.sound (IsSent es None) apart talk is.obeys (λ ask w. w) in
     prunes_no_pack from es outcome (λ other own. prunes_none who es is.obeys none other (own_before who from fit agree talk to is.obeys h sound other own) own)
-    (ends_either (prune_task who) PruneAllows PruneGives PruneConcludes (λ fs ask o permitted reading. forgets.undeleted fs (prune_reads_first fs ask permitted reading)) from fit tt versions (puts_none (prune_task who) PruneAllows (λ fs token n x p. p)) talk to outcome is h
+    (ends_either (prune_task who) PruneAllows PruneGives PruneConcludes (λ fs ask o permitted reading. forgets.undeleted fs (prune_reads_first fs ask permitted reading)) from fit tt versions (puts_none (prune_task who) PruneAllows (λ fs token n x p. p.1)) talk to outcome is h
     sound (calm_of failed talk low ran.cause) few)

@@ -7,7 +7,7 @@ use Rattle.repo_wire.specs.declared.messages.Ask.{Ask}
 use Rattle.repo_wire.specs.declared.messages.Say.{Say}
 use Rattle.repo_index.specs.declared.facts.Fact.{Fact}
 use Rattle.repo_session.specs.Catalogs.{AreIndexed}
-use Rattle.repo_session.specs.Traces.{Exchange, Trace, object_put, page_names, is_last_page, ReadFact}
+use Rattle.repo_session.specs.Traces.{Exchange, Trace, object_put, page_names, is_last_page, IsListed, ReadFact}
 use Rattle.repo_session.proofs.Cataloguing.{fact_stays, fact_before}
 use Rattle.repo_session.proofs.Deleting.{DeletesNone, ListsNone, listed_stays, listing_stays, names_stay, none_deleted_on}
 use Rattle.repo_session.proofs.Rolling.{paged_on}
@@ -54,6 +54,10 @@ no_last k Ask.Config say h = absurd h
 
 pub aside_lists : (k : Kind) (e : Exchange) → IsAside e.ask → ListsNone k e
 aside_lists k e h = record { page = no_page k e.ask e.say h; last = no_last k e.ask e.say h; ask = λ after is. subst IsAside is h }
+
+-- all packs are listed where all was read
+pub packs_whole : (k : Known) (es : Trace) → HaveRead k es → IsListed Kind.Pack es
+packs_whole k es h = record { complete = h.packs.complete; rise = h.packs.rise }
 
 -- what the config wants stays known
 pub target_later : (e : Exchange) (es : Trace) (bytes : ℕ) → HasTarget es bytes → HasTarget (e ∷ es) bytes

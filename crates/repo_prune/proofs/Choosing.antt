@@ -32,7 +32,7 @@ use Rattle.repo_prune.proofs.Those.{those_are, are_those, those_ascend}
 use Rattle.repo_prune.specs.declared.choices.Choice.{Choice}
 use Rattle.repo_prune.specs.declared.forgets.Forget.{Forget}
 use Rattle.repo_prune.specs.Forgetting.{GoesByPolicy, IsDecided, IsChosen, AreChosen, AreChosenOf, ForgetAllows, forget_rule, forget_task}
-use Rattle.repo_prune.specs.ForgetStates.{Deletes, KnowsForget, KnowsReading, TakesPageByNames}
+use Rattle.repo_prune.specs.ForgetStates.{Deletes, KnowsForget, KnowsReading, ReadsOnByPolicy, TakesPageByNames}
 use Rattle.repo_prune.specs.Keeping.{Row}
 
 -- ---- reading
@@ -237,3 +237,13 @@ steps_by_names old holding (Ask.Refresh t time) say step new names is other h = 
 steps_by_names old holding (Ask.Unlock t) say step new names is other h = λ es w obeys asked. absurd asked.allowed.0
 steps_by_names old holding Ask.Locks say step new names is other h = λ es w obeys asked. absurd asked.allowed.0
 steps_by_names old holding Ask.Config say step new names is other h = λ es w obeys asked. absurd asked.allowed.0
+
+-- by a policy it reads
+goes_by_policy : (choice : Choice) → ((names : List Name) → choice ≢ Choice.Names names) → GoesByPolicy choice
+goes_by_policy (Choice.Names names) other = absurd (other names refl)
+goes_by_policy (Choice.Keep policy) other = tt
+goes_by_policy (Choice.KeepOf host policy) other = tt
+
+pub steps_by_policy : (old : Forget) (holding : Holding) (ask : Ask) (say : Say) (step : Step) (new : Forget) → ((names : List Name) → old.choice ≢ Choice.Names names) → IsNoDelete ask → ReadsOnByPolicy old holding ask say step new
+    → StepsOn (forget_rule old.choice) holding (KnowsForget old) (KnowsForget new) (silent ask say) step
+steps_by_policy old holding ask say step new policy other h = λ es w obeys asked. h (goes_by_policy old.choice policy) es w obeys (reading_asked old holding.who ask es other asked)

@@ -1,56 +1,88 @@
--- A reply that brings a snapshot of a version that isn't known.
-use Rattle.std.proofs.Common.{◌≡◌, ◌∷◌, [], ℕ, List, subst, sym}
+-- What ends a prune and a forget at once while they read, and on what they go on.
+use Rattle.std.specs.Prelude.{⊤}
+use Rattle.std.proofs.Common.{◌≡◌, ◌⊎◌, ◌∷◌, [], ℕ, false, Option, sym, subst, inl, inr}
 use Rattle.repo_name.specs.declared.kinds.Kind.{Kind}
+use Rattle.repo_name.specs.declared.kinds.Thing.{Thing}
 use Rattle.repo_name.specs.declared.names.Name.{Name}
 use Rattle.repo_name.specs.declared.tokens.Token.{Token}
 use Rattle.repo_wire.specs.declared.messages.Ask.{Ask}
 use Rattle.repo_wire.specs.declared.messages.Say.{Say}
+use Rattle.repo_session.specs.declared.catalogs.Catalog.{Catalog}
+use Rattle.repo_session.specs.declared.jobs.Step.{Step}
+use Rattle.repo_session.specs.declared.outcomes.End.{End}
+use Rattle.repo_session.specs.declared.outcomes.Outcome.{Outcome}
 use Rattle.repo_session.specs.declared.snapshot_rolls.SnapshotReading.{SnapshotReading}
 use Rattle.repo_session.specs.declared.snapshot_rolls.SnapshotRoll.{SnapshotRoll}
 use Rattle.repo_session.specs.declared.versions.Versions.{Versions}
-use Rattle.repo_session.specs.Askers.{Asker, Holding}
-use Rattle.repo_session.specs.Ends.{IsOfOtherVersion}
-use Rattle.repo_session.specs.Jobs.{MayAsk}
-use Rattle.repo_session.specs.Listings.{ListsAll}
-use Rattle.repo_session.specs.Order.{IsWorking}
-use Rattle.repo_session.specs.Traces.{Trace, silent}
+use Rattle.repo_session.specs.Ends.{EndsAtOnce, IsWelcome}
+use Rattle.repo_session.specs.Jobs.{HeedsOn, IsEndStep}
+use Rattle.repo_session.specs.Listings.{KnowsSnapshots, ListsAll, ListsOn}
+use Rattle.repo_session.specs.Order.{Task, IsWorking, May}
+use Rattle.repo_session.specs.Readings.{KnowsIndexes}
+use Rattle.repo_session.specs.Traces.{Exchange, Trace, silent}
 use Rattle.repo_session.specs.Versions.{upto}
-use Rattle.repo_session.proofs.Understanding.{lists_other}
-use Rattle.repo_prune.specs.ForgetStates.{KnowsReading}
-use Rattle.repo_prune.specs.Forgetting.{ForgetAllows, GoesByPolicy, forget_rule, forget_task}
-use Rattle.repo_prune.specs.PruneStates.{IsListingOf, KnowsPrune}
-use Rattle.repo_prune.specs.Pruning.{prune_rule, prune_task}
-use Rattle.repo_prune.specs.declared.choices.Choice.{Choice}
-use Rattle.repo_prune.specs.declared.forgets.Forget.{Forget}
-use Rattle.repo_prune.specs.declared.prunes.Prune.{Prune}
-use Rattle.repo_prune.proofs.PruneListing.{snapshots_known}
+use Rattle.repo_session.proofs.Heeding.{heeds_end, heeds_follow, indexes_understood, welcome_follows}
+use Rattle.repo_prune.specs.inner.Sorts.{IsPage}
+use Rattle.repo_prune.specs.PruneStates.{IsListingOf}
+use Rattle.repo_prune.specs.Pruning.{PruneMay}
 
--- where a prune reads snapshots and is brought one, its reading comes to just that
-pub prune_heeds : (versions : Versions) (old : Prune) (new : SnapshotRoll) (token : Token) (ask : Ask) (say : Say) (reading : SnapshotReading) → ListsAll versions old.snapshots ask say reading new → IsListingOf Kind.Snapshot ask
-    → (who : Asker) → who.versions ≡ versions → (es : Trace) → IsWorking (prune_task who) token (silent ask say ∷ es) → MayAsk prune_rule who (KnowsPrune old) es ask
-    → IsOfOtherVersion (upto who.versions) ask say → reading ≡ SnapshotReading.Version
-prune_heeds versions old new token ask say reading lists is who same es w asked other =
-    let h = snapshots_known old ask es is asked.knows in
-    lists_other versions (prune_task who) new reading (silent ask say) es (lists (prune_task who) token [] es w asked.may h.snapshots) (subst (λ v. IsOfOtherVersion (upto v) ask say) same other)
+-- ---- while snapshots are listed and read
 
--- and where a forget reads them
-pub forget_heeds : (versions : Versions) (old : Forget) (new : SnapshotRoll) (holding : Holding) (ask : Ask) (say : Say) (reading : SnapshotReading) → ListsAll versions old.snapshots ask say reading new
-    → versions ≡ holding.who.versions → (es : Trace) → IsWorking (forget_task holding.who) holding.token (silent ask say ∷ es) → MayAsk (forget_rule old.choice) holding.who (KnowsReading old) es ask
-    → IsOfOtherVersion (upto holding.who.versions) ask say → reading ≡ SnapshotReading.Version
-forget_heeds versions old new holding ask say reading lists same es w asked other =
-    lists_other versions (forget_task holding.who) new reading (silent ask say) es (lists (forget_task holding.who) holding.token [] es w asked.may asked.knows.1) (subst (λ v. IsOfOtherVersion (upto v) ask say) (sym same) other)
+-- what is done by what a reply of the reading comes to: where that doesn't go on, it is the end
+abbrev pub IsStepOn : SnapshotReading → Step → Type 0
+IsStepOn (SnapshotReading.Ask ask) step = ⊤
+IsStepOn SnapshotReading.All step = ⊤
+IsStepOn (SnapshotReading.Bad n) step = step ≡ Step.Finish (Outcome.Ended (End.BadObject Thing.Snapshot n))
+IsStepOn SnapshotReading.Version step = step ≡ Step.Finish (Outcome.Ended End.Version)
+IsStepOn SnapshotReading.Senseless step = step ≡ Step.Finish (Outcome.Ended End.BadReply)
+IsStepOn SnapshotReading.Unwelcome step = step ≡ Step.Away
 
--- a forget by names gets no snapshot, and so is brought none
-pub names_heed : (known : ℕ) (choice : Choice) (names : List Name) (ask : Ask) (say : Say) (es : Trace) → choice ≡ Choice.Names names → ForgetAllows choice es ask → ¬ IsOfOtherVersion known ask say
-names_heed known choice names (Ask.Get k n) say es is allowed o = subst GoesByPolicy is allowed.2
-names_heed known choice names (Ask.List k after) say es is allowed o = o
-names_heed known choice names (Ask.Range pack offset len) say es is allowed o = o
-names_heed known choice names (Ask.Put token k n x) say es is allowed o = o
-names_heed known choice names (Ask.Delete token k n) say es is allowed o = o
-names_heed known choice names (Ask.Upgrade token) say es is allowed o = o
-names_heed known choice names Ask.Config say es is allowed o = allowed.0
-names_heed known choice names Ask.Ticket say es is allowed o = o
-names_heed known choice names (Ask.Lock row) say es is allowed o = o
-names_heed known choice names (Ask.Refresh token time) say es is allowed o = o
-names_heed known choice names (Ask.Unlock token) say es is allowed o = o
-names_heed known choice names Ask.Locks say es is allowed o = o
+ended_heeds : (known : ℕ) (e : Exchange) (step by : Step) → step ≡ by → HeedsOn known false e by → HeedsOn known false e step
+ended_heeds known e step by is h = subst (HeedsOn known false e) (sym is) h
+
+reading_heeds : (versions : Versions) (task : Task) (s : SnapshotRoll) (reading : SnapshotReading) (e : Exchange) (es : Trace) (step : Step) → ListsOn versions task s reading e es → IsStepOn reading step → HeedsOn (upto versions) false e step
+reading_heeds versions task s (SnapshotReading.Ask ask) e es step on is = heeds_follow (upto versions) false e step (welcome_follows (upto versions) false e on.0.0 on.0.1)
+reading_heeds versions task s SnapshotReading.All e es step on is = heeds_follow (upto versions) false e step (welcome_follows (upto versions) false e on.0.0 on.0.1)
+reading_heeds versions task s (SnapshotReading.Bad n) e es step on is = ended_heeds (upto versions) e step _ is (heeds_end (upto versions) false e (End.BadObject Thing.Snapshot n) on)
+reading_heeds versions task s SnapshotReading.Version e es step on is = ended_heeds (upto versions) e step _ is (heeds_end (upto versions) false e End.Version on)
+reading_heeds versions task s SnapshotReading.Senseless e es step on is = ended_heeds (upto versions) e step _ is (heeds_end (upto versions) false e End.BadReply on)
+reading_heeds versions task s SnapshotReading.Unwelcome e es step on is = ended_heeds (upto versions) e step Step.Away is (λ ends. tt)
+
+-- so it is on each exchange of the reading, for who knows these versions
+pub listing_heeds : (versions own : Versions) (old new : SnapshotRoll) (ask : Ask) (say : Say) (reading : SnapshotReading) (task : Task) (token : Token) (es : Trace) (step : Step) → own ≡ versions → ListsAll versions old ask say reading new
+    → IsWorking task token (silent ask say ∷ es) → May task es ask → KnowsSnapshots old ask es → IsStepOn reading step → HeedsOn (upto own) false (silent ask say) step
+listing_heeds versions own old new ask say reading task token es step same lists w may known is =
+    let e : Exchange = silent ask say in
+    subst (λ v. HeedsOn (upto v) false e step) (sym same) (reading_heeds versions task new reading e es step (lists task token [] es w may known) is)
+
+-- ---- while indexes are listed and read
+
+pub index_heeds : (known : ℕ) (c : Catalog) (ask : Ask) (say : Say) (es : Trace) (step : Step) → KnowsIndexes c ask es → IsWelcome (silent ask say) → HeedsOn known false (silent ask say) step
+index_heeds known c ask say es step h welcome = heeds_follow known false (silent ask say) step (welcome_follows known false (silent ask say) (indexes_understood known c ask say es h) welcome)
+
+-- ---- while packs are listed
+
+-- on a page of names it goes on
+page_follows : (known : ℕ) (kind : Kind) (after : Option Name) (say : Say) → IsPage say → EndsAtOnce known false (silent (Ask.List kind after) say) → ⊥
+page_follows known kind after (Say.Names more names) page (inl other) = other
+page_follows known kind after (Say.Names more names) page (inr passed) = passed tt
+page_follows known kind after (Say.Token t) page ends = (let is = page.2 in absurd (cc))
+page_follows known kind after Say.Done page ends = (let is = page.2 in absurd (cc))
+page_follows known kind after (Say.Bytes x) page ends = (let is = page.2 in absurd (cc))
+page_follows known kind after (Say.LockList rows) page ends = (let is = page.2 in absurd (cc))
+page_follows known kind after (Say.Refused code) page ends = (let is = page.2 in absurd (cc))
+
+pub page_heeds : (known : ℕ) (ask : Ask) (say : Say) (step : Step) (es : Trace) → IsListingOf Kind.Pack ask → PruneMay es ask → (step ≡ Step.Away) ⊎ IsPage say → HeedsOn known false (silent ask say) step
+page_heeds known ask say step es listing may (inl away) = λ ends. subst (IsEndStep known (silent ask say)) (sym away) tt
+page_heeds known (Ask.List kind after) say step es listing may (inr page) = λ ends. absurd (page_follows known kind after say page ends)
+page_heeds known (Ask.Get kind n) say step es listing may (inr page) = λ ends. absurd (may.1 listing)
+page_heeds known (Ask.Range pack offset len) say step es listing may (inr page) = absurd listing
+page_heeds known (Ask.Put token kind n x) say step es listing may (inr page) = absurd listing
+page_heeds known (Ask.Delete token kind n) say step es listing may (inr page) = absurd listing
+page_heeds known (Ask.Upgrade token) say step es listing may (inr page) = absurd listing
+page_heeds known Ask.Ticket say step es listing may (inr page) = absurd listing
+page_heeds known (Ask.Lock row) say step es listing may (inr page) = absurd listing
+page_heeds known (Ask.Refresh token time) say step es listing may (inr page) = absurd listing
+page_heeds known (Ask.Unlock token) say step es listing may (inr page) = absurd listing
+page_heeds known Ask.Locks say step es listing may (inr page) = absurd listing
+page_heeds known Ask.Config say step es listing may (inr page) = absurd listing

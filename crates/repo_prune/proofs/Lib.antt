@@ -21,6 +21,7 @@ pub mod Relistings
 pub mod Asides
 pub mod Heeding
 pub mod PruneListing
+pub mod Pending
 pub mod PruneStages
 pub mod PruneTrees
 pub mod PruneDeletes

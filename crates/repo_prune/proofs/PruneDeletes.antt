@@ -19,6 +19,7 @@ use Rattle.repo_wire.specs.declared.messages.Ask.{Ask}
 use Rattle.repo_wire.specs.declared.messages.Say.{Say}
 use Rattle.repo_session.specs.declared.jobs.Step.{Step}
 use Rattle.repo_session.specs.Askers.{Asker}
+use Rattle.repo_session.specs.Blobs.{HasCome}
 use Rattle.repo_session.specs.Deletions.{DeleteDone, names_deleted}
 use Rattle.repo_session.specs.Jobs.{MayAsk}
 use Rattle.repo_session.specs.Order.{IsWorking}
@@ -35,11 +36,11 @@ use Rattle.repo_writing.specs.Writing.{Put, IsPut, AreListed, ListsPack}
 use Rattle.repo_writing.specs.declared.counts.Counts.{Counts}
 use Rattle.repo_prune.specs.inner.Deleting.{BeginsDeleting, DeletesNext, IsGone}
 use Rattle.repo_prune.specs.PruneStates.{Known, ArePacked, HasListed, IsClearing, KnowsDeleting, KnowsStage, MayClear, IsNextStep}
-use Rattle.repo_prune.specs.Pruning.{prune_rule, prune_task, AreCovered, AreReplaced, IsPruned, IsSettled}
+use Rattle.repo_prune.specs.Pruning.{prune_rule, prune_task, AreCovered, AreReplaced, IsPruned, IsSettled, IsWanted}
 use Rattle.repo_prune.specs.declared.deleting.Deleting.{Deleting}
 use Rattle.repo_prune.specs.declared.prunes.Stage.{Stage}
 use Rattle.repo_prune.specs.declared.relisting.Relisting.{Relisting}
-use Rattle.repo_prune.proofs.Asides.{aside_lists, indexed_same}
+use Rattle.repo_prune.proofs.Asides.{aside_lists, indexed_same, packs_whole}
 use Rattle.repo_prune.proofs.Repacking.{one_taken}
 use Rattle.repo_prune.proofs.Those.{those_are, are_those, those_ascend}
 use Rattle.repo_prune.proofs.Ascending.{behind_first}
@@ -216,7 +217,7 @@ module _ (k : Known) (r : Relisting) (d : Deleting) (es : Trace) (h : HasListed 
           stand = puts_listed k r.packs.items r.counts es p;
           covered = p.covered;
         };
-        all = record { complete = p.read.packs.complete; rise = p.read.packs.rise };
+        all = packs_whole k es p.read;
         indexes_old = λ n among. let is = those_are (IsUnlike r.indexes.items) k.indexes d.indexes.items n b.indexes_are among in (lists_index n is.0, λ asked. not_among r.indexes.items n is.1 (put_named n asked));
         indexes_all = λ n lists. elim (among_or r.indexes.items n) [
           | inl put ↦ inl (named_put n put)
@@ -258,23 +259,23 @@ module _ (k : Known) (d : Deleting) (who : Asker) (token : Token) (es : Trace) (
     | inr old ↦ inr (each_gone (λ m. DeleteDone es Kind.Index m) d.indexes.items d.indexes_gone all c.indexes_gone n old)
   ]
 
-  index_next : (n : Name) → slice_get d.indexes.items d.indexes_gone ≡ Some n → MayAsk prune_rule who (KnowsStage k (Stage.Deleting d)) es (Ask.Delete token Kind.Index n)
-  index_next n at =
+  index_next : (n : Name) → slice_get d.indexes.items d.indexes_gone ≡ Some n → HasCome IsWanted es → MayAsk prune_rule who (KnowsStage k (Stage.Deleting d)) es (Ask.Delete token Kind.Index n)
+  index_next n at come =
       let old = c.may.indexes_old n (contains_got d.indexes.items d.indexes_gone n at) in
       record {
         work = tt;
         may = (w, refl);
-        allowed = record { packs = c.packs; settled = c.may.settled; among = old.0; unput = old.1; behind = λ m asked. behind_first d.indexes.items d.indexes_gone n c.may.indexes_ascend at m (subst (λ ns. Contains ns m) c.indexes_deleted asked) };
+        allowed = (come, record { packs = c.packs; settled = c.may.settled; among = old.0; unput = old.1; behind = λ m asked. behind_first d.indexes.items d.indexes_gone n c.may.indexes_ascend at m (subst (λ ns. Contains ns m) c.indexes_deleted asked) });
         knows = (at, c);
       }
 
-  pack_next : length d.indexes.items ≤ d.indexes_gone → (n : Name) → slice_get d.packs.items d.packs_gone ≡ Some n → MayAsk prune_rule who (KnowsStage k (Stage.Deleting d)) es (Ask.Delete token Kind.Pack n)
-  pack_next all n at =
+  pack_next : length d.indexes.items ≤ d.indexes_gone → (n : Name) → slice_get d.packs.items d.packs_gone ≡ Some n → HasCome IsWanted es → MayAsk prune_rule who (KnowsStage k (Stage.Deleting d)) es (Ask.Delete token Kind.Pack n)
+  pack_next all n at come =
       let old = c.may.packs_old n (contains_got d.packs.items d.packs_gone n at) in
       record {
         work = tt;
         may = (w, refl);
-        allowed = record { packs = c.packs; settled = c.may.settled; replaced = replaced all; all = c.may.all; among = old.among; unput = old.unput; unlisted = old.unlisted; behind = λ m asked. behind_first d.packs.items d.packs_gone n c.may.packs_ascend at m (subst (λ ns. Contains ns m) c.deleted asked) };
+        allowed = (come, record { packs = c.packs; settled = c.may.settled; replaced = replaced all; all = c.may.all; among = old.among; unput = old.unput; unlisted = old.unlisted; behind = λ m asked. behind_first d.packs.items d.packs_gone n c.may.packs_ascend at m (subst (λ ns. Contains ns m) c.deleted asked) });
         knows = (all, at, c);
       }
 
@@ -300,7 +301,7 @@ module _ (k : Known) (d : Deleting) (who : Asker) (token : Token) (es : Trace) (
   pub clears : (step : Step) → DeletesNext d token step → IsNextStep k who (Stage.Deleting d) step es
   clears step (inl (n, at, is)) = subst (λ s. IsNextStep k who (Stage.Deleting d) s es) (sym is) (index_next n at)
   clears step (inr (all, inl (n, at, is))) = subst (λ s. IsNextStep k who (Stage.Deleting d) s es) (sym is) (pack_next all n at)
-  clears step (inr (all, inr (gone, is))) = subst (λ s. IsNextStep k who (Stage.Deleting d) s es) (sym is) (ends all gone)
+  clears step (inr (all, inr (gone, is))) = subst (λ s. IsNextStep k who (Stage.Deleting d) s es) (sym is) (λ come. (come, ends all gone))
 
 -- ---- a delete is done
 

@@ -21,6 +21,7 @@ use Rattle.repo_session.specs.declared.outcomes.End.{End}
 use Rattle.repo_session.specs.declared.outcomes.Outcome.{Outcome}
 use Rattle.repo_session.specs.Alone.{IsFit, IsSent, EndsWell}
 use Rattle.repo_session.specs.Askers.{Asker}
+use Rattle.repo_session.specs.Blobs.{IsBadPart}
 use Rattle.repo_session.specs.Clients.{exchange}
 use Rattle.repo_session.specs.Deletions.{NoneDeleted}
 use Rattle.repo_session.specs.Ends.{before_unlock}
@@ -43,14 +44,14 @@ use Rattle.repo_session.proofs.Spoken.{held_agree}
 use Rattle.repo_session.proofs.Telling.{seen_run}
 use Rattle.repo_writing.proofs.PutLemmas.{asked_put}
 use Rattle.repo_prune.specs.PruneLaws.{IsPrunedOrMemory, PruneEndsWell}
-use Rattle.repo_prune.specs.Pruning.{prune_task, IsUntouched, IsWanted, IsBadTree, IsBadPart, PruneAllows, PruneGives, PruneConcludes}
+use Rattle.repo_prune.specs.Pruning.{prune_task, IsUntouched, IsWanted, IsBadTree, PruneAllows, PruneGives, PruneConcludes}
 use Rattle.repo_prune.proofs.ForgetRuns.{undeleted}
 use Rattle.repo_prune.proofs.PruneRuns.{throughout}
 
 pub prune_reads_first : (es : Trace) (ask : Ask) → IsPermitted PruneAllows es ask → IsReading ask → NoneDeleted es
-prune_reads_first es (Ask.List k after) h r = (h tt).0
-prune_reads_first es (Ask.Get k n) h r = (h tt).0
-prune_reads_first es (Ask.Range pack offset len) h r = (h tt).1.none
+prune_reads_first es (Ask.List k after) h r = (h tt).1.0
+prune_reads_first es (Ask.Get k n) h r = (h tt).1.0
+prune_reads_first es (Ask.Range pack offset len) h r = (h tt).1.1.known.none
 prune_reads_first es Ask.Ticket h r = absurd r
 prune_reads_first es (Ask.Lock row) h r = absurd r
 prune_reads_first es (Ask.Refresh token time) h r = absurd r
@@ -123,16 +124,16 @@ module _ (who : Asker) (from : Store) (fit : IsFit from) (agree : Agree (IsHeld 
 
 -- a fact whose blob is wanted is one that an index gives
 wanted_read : (es : Trace) (fact : Fact) → IsWanted es fact → ReadFact es fact
-wanted_read es fact wanted = (wanted.gives fact).0 wanted.copy.least.among
+wanted_read es fact wanted = (wanted.known.gives fact).0 wanted.copy.least.among
 
 -- where the store is sound after each exchange, no blob that was wanted came bad
 no_bad_part : (who : Asker) (from : Store) → IsFit from → (talk : Talk) (to : Store) → Obeys (prune_task who) PruneAllows PruneGives (trace_of talk) → Led from talk to → IsSoundThroughout from talk → (thing : Thing) (name : Name)
-    → IsBadPart (trace_of talk) thing name → ⊥
+    → IsBadPart IsWanted (trace_of talk) thing name → ⊥
 no_bad_part who from fit [] to o h sound thing name bad = bad
 no_bad_part who from fit (turn ∷ talk) to o h sound thing name (fact, wanted, (is, x, said, bad), kind, called) =
     let es : Trace = trace_of talk in
     let e : Exchange = exchange turn.request turn.reply turn.emitted in
-    let none = none_deleted_on e es (subst DeletesNone (sym is) (λ k. refl)) wanted.none in
+    let none = none_deleted_on e es (subst DeletesNone (sym is) (λ k. refl)) wanted.known.none in
     let shares : Shares from (e ∷ es) to = (known (prune_task who) PruneAllows PruneGives from fit (turn ∷ talk) to h o).shares (undeleted (e ∷ es) none) in
     let read = wanted_read es fact wanted in
     let listed = shares.got Kind.Index read.index read.text (inr read.read.0) in
@@ -151,12 +152,12 @@ module _ (who : Asker) (from : Store) (fit : IsFit from) (agree : Agree (IsHeld 
   own_well talk to o h sound (Outcome.Faults faults) own = absurd own
   own_well talk to o h sound Outcome.Upgraded own = absurd own
   own_well talk to o h sound (Outcome.Ended (End.BadObject Thing.Tree tree)) own =
-      absurd (⊎_elim (λ broken. no_bad_tree who from fit agree talk to o h broken.0 tree broken.1) (λ part. no_bad_part who from fit talk to o h sound Thing.Tree tree part) own)
+      absurd (⊎_elim (λ broken. no_bad_tree who from fit agree talk to o h broken.0.untouched tree broken.2) (λ part. no_bad_part who from fit talk to o h sound Thing.Tree tree part) own)
   own_well talk to o h sound (Outcome.Ended (End.BadObject Thing.Content name)) own = absurd (no_bad_part who from fit talk to o h sound Thing.Content name own)
   own_well talk to o h sound (Outcome.Ended (End.BadObject Thing.Pack name)) own = absurd (no_bad_part who from fit talk to o h sound Thing.Pack name own)
   own_well talk to o h sound (Outcome.Ended (End.BadObject Thing.Index name)) own = absurd (no_bad_part who from fit talk to o h sound Thing.Index name own)
   own_well talk to o h sound (Outcome.Ended (End.BadObject Thing.Snapshot name)) own = absurd (no_bad_part who from fit talk to o h sound Thing.Snapshot name own)
-  own_well talk to o h sound (Outcome.Ended (End.Missing thing name)) own = absurd (no_unindexed who from fit agree talk to o h own.0 own.1.0 thing name own.1.2)
+  own_well talk to o h sound (Outcome.Ended (End.Missing thing name)) own = absurd (no_unindexed who from fit agree talk to o h own.0.untouched own.2.0 thing name own.2.2)
   own_well talk to o h sound (Outcome.Ended End.Busy) own = absurd own
   own_well talk to o h sound (Outcome.Ended End.Fenced) own = absurd own
   own_well talk to o h sound (Outcome.Ended (End.Refused code)) own = absurd own
@@ -183,5 +184,5 @@ prune_ends who from to failed talk outcome fit versions deletes apart low ran fe
     let agree = held_agree from (IsSent (trace_of talk) None) (λ x. ⊥) apart from.objects (λ k n x p. inl (n, p)) fit.sound.named in
     let sound = throughout who from fit.sound (IsSent (trace_of talk) None) apart talk is.obeys (λ ask w. w) in
     prune_well (trace_of talk) outcome (own_before who from fit agree talk to is.obeys h sound)
-    (ends_well (prune_task who) PruneAllows PruneGives PruneConcludes (λ es ask o permitted reading. undeleted es (prune_reads_first es ask permitted reading)) from fit tt versions (puts_none (prune_task who) PruneAllows (λ es token n x p. p)) (λ es token k n allowed. deletes) talk to outcome is h
+    (ends_well (prune_task who) PruneAllows PruneGives PruneConcludes (λ es ask o permitted reading. undeleted es (prune_reads_first es ask permitted reading)) from fit tt versions (puts_none (prune_task who) PruneAllows (λ es token n x p. p.1)) (λ es token k n allowed. deletes) talk to outcome is h
     sound (calm_of failed talk low ran.cause) few)

@@ -210,4 +210,4 @@ all_sent es (Some request) ask w = inr w
 
 pub prune_leaves : PruneLeavesWhatIsNeeded
 prune_leaves who from to failed failing talk next packs bytes sound apart ran is =
-    left_by who from sound (IsSent (trace_of talk) next) apart packs bytes talk to is.obeys (all_sent (trace_of talk) next) (led from talk to ran.run) (is.concluded (Outcome.Pruned packs bytes) refl)
+    left_by who from sound (IsSent (trace_of talk) next) apart packs bytes talk to is.obeys (all_sent (trace_of talk) next) (led from talk to ran.run) (is.concluded (Outcome.Pruned packs bytes) refl).1

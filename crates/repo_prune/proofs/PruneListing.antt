@@ -9,7 +9,9 @@ use Rattle.repo_session.specs.declared.catalogs.Catalog.{Catalog}
 use Rattle.repo_session.specs.declared.rolls.Roll.{Roll}
 use Rattle.repo_session.specs.declared.jobs.Step.{Step}
 use Rattle.repo_session.specs.Askers.{Asker}
+use Rattle.repo_session.specs.Blobs.{HasCome}
 use Rattle.repo_session.specs.Catalogs.{Catalogs, IsAll}
+use Rattle.repo_session.specs.Ends.{AsksPart}
 use Rattle.repo_session.specs.Jobs.{MayAsk, MayStep}
 use Rattle.repo_session.specs.Listings.{IsSnapshotListing}
 use Rattle.repo_session.specs.Order.{Task, opened, ReadsKind, last_of}
@@ -19,9 +21,8 @@ use Rattle.repo_session.specs.Traces.{Exchange, Trace, WasAsked, same_kind, page
 use Rattle.repo_session.proofs.Cataloguing.{are_indexed, catalog_on, rolled_on}
 use Rattle.repo_session.proofs.Rolling.{same_self}
 use Rattle.repo_session.proofs.Deleting.{ListsNone, listing_stays}
-use Rattle.repo_session.specs.Deletions.{NoneDeleted}
 use Rattle.repo_prune.specs.Keeping.{Row}
-use Rattle.repo_prune.specs.Pruning.{prune_rule, prune_task, IsReadInTurn, PruneAllows}
+use Rattle.repo_prune.specs.Pruning.{prune_rule, prune_task, IsReadInTurn, IsWanted, PruneAllows}
 use Rattle.repo_prune.specs.PruneStates.{Known, HasOnlyListed, HaveRead, HasTarget, AreUnlisted, ReadsSnapshots, ReadsIndexes, ListsPacks, IsListingOf, KnowsPrune, KnowsStage, IsNextStep, KnowsAsMuch, StepsFrom, known_in}
 use Rattle.repo_prune.specs.declared.prunes.Onward.{Onward}
 use Rattle.repo_prune.specs.declared.prunes.Prune.{Prune}
@@ -155,26 +156,36 @@ listing_same j (Ask.Delete t i n) h = absurd h
 listing_same j (Ask.Upgrade t) h = absurd h
 listing_same j Ask.Config h = absurd h
 
+-- a request for a part of a pack
+part_is : (ask : Ask) → AsksPart ask → (pack : Name) × (offset : ℕ) × (len : ℕ) × (ask ≡ Ask.Range pack offset len)
+part_is (Ask.Range pack offset len) h = (pack, offset, len, refl)
+part_is _ h = absurd h
+
+-- where no part of a pack was asked for, none is to come
+pub listed_come : (es : Trace) → HasOnlyListed es → HasCome IsWanted es
+listed_come [] listed = tt
+listed_come (e ∷ es) listed = λ part. (let p = part_is e.ask part in absurd (listed.none_ranged p.0 p.1 p.2 (inl p.3)))
+
 -- where those before a kind were read, it may ask for pages of it, and for its objects but packs, each once
-kind_allowed : (j : Kind) (es : Trace) (ask : Ask) → j ≢ Kind.Pack → IsReadInTurn j es → ReadsKind j es ask → NoneDeleted es → PruneAllows es ask
-kind_allowed j es (Ask.List i after) other turn h none = (none, subst (λ k. IsReadInTurn k es) (sym h) turn)
-kind_allowed j es (Ask.Get i n) other turn h none = (none, λ is. other (sym h.0 ∙ is), h.1, subst (λ k. IsReadInTurn k es) (sym h.0) turn)
-kind_allowed j es (Ask.Range pack offset len) other turn h none = absurd h
-kind_allowed j es (Ask.Put t i n x) other turn h none = absurd h
-kind_allowed j es (Ask.Delete t i n) other turn h none = absurd h
-kind_allowed j es (Ask.Upgrade t) other turn h none = absurd h
-kind_allowed j es Ask.Ticket other turn h none = absurd h
-kind_allowed j es (Ask.Lock row) other turn h none = absurd h
-kind_allowed j es (Ask.Refresh t time) other turn h none = absurd h
-kind_allowed j es (Ask.Unlock t) other turn h none = absurd h
-kind_allowed j es Ask.Locks other turn h none = absurd h
-kind_allowed j es Ask.Config other turn h none = absurd h
+kind_allowed : (j : Kind) (es : Trace) (ask : Ask) → j ≢ Kind.Pack → IsReadInTurn j es → ReadsKind j es ask → HasOnlyListed es → PruneAllows es ask
+kind_allowed j es (Ask.List i after) other turn h listed = (listed_come es listed, (listed.none_deleted, subst (λ k. IsReadInTurn k es) (sym h) turn))
+kind_allowed j es (Ask.Get i n) other turn h listed = (listed_come es listed, (listed.none_deleted, λ is. other (sym h.0 ∙ is), h.1, subst (λ k. IsReadInTurn k es) (sym h.0) turn))
+kind_allowed j es (Ask.Range pack offset len) other turn h listed = absurd h
+kind_allowed j es (Ask.Put t i n x) other turn h listed = absurd h
+kind_allowed j es (Ask.Delete t i n) other turn h listed = absurd h
+kind_allowed j es (Ask.Upgrade t) other turn h listed = absurd h
+kind_allowed j es Ask.Ticket other turn h listed = absurd h
+kind_allowed j es (Ask.Lock row) other turn h listed = absurd h
+kind_allowed j es (Ask.Refresh t time) other turn h listed = absurd h
+kind_allowed j es (Ask.Unlock t) other turn h listed = absurd h
+kind_allowed j es Ask.Locks other turn h listed = absurd h
+kind_allowed j es Ask.Config other turn h listed = absurd h
 
-pub snapshots_allowed : (es : Trace) (ask : Ask) → ReadsKind Kind.Snapshot es ask → NoneDeleted es → PruneAllows es ask
-snapshots_allowed es ask h none = kind_allowed Kind.Snapshot es ask (λ is. absurd (cc)) tt h none
+pub snapshots_allowed : (es : Trace) (ask : Ask) → ReadsKind Kind.Snapshot es ask → HasOnlyListed es → PruneAllows es ask
+snapshots_allowed es ask h listed = kind_allowed Kind.Snapshot es ask (λ is. absurd (cc)) tt h listed
 
-pub indexes_allowed : (es : Trace) (ask : Ask) (rows : List Row) → IsSnapshotListing es rows → ReadsKind Kind.Index es ask → NoneDeleted es → PruneAllows es ask
-indexes_allowed es ask rows snapshots h none = kind_allowed Kind.Index es ask (λ is. absurd (cc)) (rows, snapshots) h none
+pub indexes_allowed : (es : Trace) (ask : Ask) (rows : List Row) → IsSnapshotListing es rows → ReadsKind Kind.Index es ask → HasOnlyListed es → PruneAllows es ask
+indexes_allowed es ask rows snapshots h listed = kind_allowed Kind.Index es ask (λ is. absurd (cc)) (rows, snapshots) h listed
 
 pub listing_untouched : (j : Kind) (e : Exchange) (es : Trace) → IsListingOf j e.ask → HasOnlyListed es → HasOnlyListed (e ∷ es)
 listing_untouched j e es h listed =
@@ -337,11 +348,11 @@ later_known j (Ask.Upgrade t) es h = h
 later_known j Ask.Config es h = h
 
 -- the next step is one that the job may take
-pub may_step : (j : Prune) (who : Asker) (e : Exchange) (es : Trace) (step : Step) → e.emitted ≡ [] → IsNextStep (known_in j) who j.stage step (e ∷ es) → MayStep prune_rule who (KnowsPrune j) es e step
-may_step j who e es (Step.Ask ask) none h = (inl none, record { work = h.work; may = h.may; allowed = h.allowed; knows = later_known j ask (e ∷ es) h.knows })
-may_step j who e es (Step.Finish outcome) none h = (inl none, h)
-may_step j who e es Step.Want none h = absurd h
-may_step j who e es Step.Away none h = absurd h
+pub may_step : (j : Prune) (who : Asker) (e : Exchange) (es : Trace) (step : Step) → e.emitted ≡ [] → HasCome IsWanted (e ∷ es) → IsNextStep (known_in j) who j.stage step (e ∷ es) → MayStep prune_rule who (KnowsPrune j) es e step
+may_step j who e es (Step.Ask ask) none come h = let a = h come in (inl none, record { work = a.work; may = a.may; allowed = a.allowed; knows = later_known j ask (e ∷ es) a.knows })
+may_step j who e es (Step.Finish outcome) none come h = (inl none, h come)
+may_step j who e es Step.Want none come h = absurd h
+may_step j who e es Step.Away none come h = absurd h
 
 -- the stage and the step of what comes next
 pub gone_on : (k : Known) (who : Asker) (onward : Onward) (j : Prune) (step : Step) (es : Trace) → step ≡ onward.step → j.stage ≡ onward.stage → known_in j ≡ k → IsNextStep k who onward.stage onward.step es
@@ -354,7 +365,7 @@ gone_on k who onward j step es step_is stage_is same h =
 -- what is done on a page, is done on each request of the listing of packs, which gets none
 pub steps_listing : (old : Prune) (token : Token) (ask : Ask) (say : Say) (step : Step) (new : Prune) → ((after : Option Name) → StepsFrom old token (Ask.List Kind.Pack after) say step new) → IsListingOf Kind.Pack ask → StepsFrom old token ask say step new
 steps_listing old token (Ask.List i after) say step new h is = subst (λ k. StepsFrom old token (Ask.List k after) say step new) (sym is) (h after)
-steps_listing old token (Ask.Get i n) say step new h is = λ who es w obeys asked. absurd (asked.allowed.1 is)
+steps_listing old token (Ask.Get i n) say step new h is = λ who es w obeys asked. absurd (asked.allowed.1.1 is)
 steps_listing old token (Ask.Range pack offset len) say step new h is = absurd is
 steps_listing old token (Ask.Put t i n x) say step new h is = absurd is
 steps_listing old token (Ask.Delete t i n) say step new h is = absurd is
@@ -390,7 +401,7 @@ pack_page j who es ask is due h =
     record {
       work = due.work;
       may = due.may;
-      allowed = subst (PruneAllows es) same (h.untouched.none_deleted, ((j.snapshots.rows.items, h.snapshots), indexed));
+      allowed = subst (PruneAllows es) same (listed_come es h.untouched, (h.untouched.none_deleted, ((j.snapshots.rows.items, h.snapshots), indexed)));
       knows = subst (λ a. KnowsPrune j a es) same (subst (λ a. ListsPacks j a es) (sym same) h);
     }
 

@@ -24,7 +24,7 @@ use Rattle.repo_session.specs.declared.jobs.Step.{Step}
 use Rattle.repo_session.specs.Askers.{Asker}
 use Rattle.repo_session.specs.Jobs.{MayAsk}
 use Rattle.repo_session.specs.Order.{IsWorking}
-use Rattle.repo_session.specs.Blobs.{range_of, IsBadBlob}
+use Rattle.repo_session.specs.Blobs.{range_of, HasCome, IsBadBlob}
 use Rattle.repo_session.specs.Traces.{Each, Exchange, Trace, object_put, ReadFact}
 use Rattle.repo_session.proofs.Cataloguing.{fact_stays}
 use Rattle.repo_session.proofs.Deleting.{DeletesNone, none_deleted_on}
@@ -39,11 +39,11 @@ use Rattle.repo_writing.specs.declared.counts.Counts.{Counts}
 use Rattle.repo_writing.specs.declared.targets.Target.{Target}
 use Rattle.repo_prune.specs.Moving.{IsMoving, AwaitsBlob, MovesOn, SendsPack}
 use Rattle.repo_prune.specs.PruneStates.{Known, AreReceived, HaveCome, ArePlanned, HasPlanned, IsRepacking, KnowsMove, HasMoved, KnowsStage, IsNextStep, MovesTo}
-use Rattle.repo_prune.specs.Pruning.{prune_rule, prune_task, HasToMove, IsNeededBy, MustMoveBy, AreLastMoved, AreNextMoved, WasReceived, AreFewParts, parts_in, IsNextMove, IsWanted, Pair, pair_of_fact, pair_of_item, PruneConcludes}
+use Rattle.repo_prune.specs.Pruning.{prune_rule, prune_task, HasToMove, IsNeededBy, MustMoveBy, AreLastMoved, AreNextMoved, WasReceived, AreFewParts, parts_in, IsNextMove, IsSurveyed, IsWanted, Pair, pair_of_fact, pair_of_item, PruneConcludes}
 use Rattle.repo_prune.specs.declared.moving.Moved.{Moved}
 use Rattle.repo_prune.specs.declared.moving.Moving.{Moving}
 use Rattle.repo_prune.specs.declared.prunes.Stage.{Stage}
-use Rattle.repo_prune.proofs.Asides.{IsAside, read_same}
+use Rattle.repo_prune.proofs.Asides.{IsAside, packs_whole, read_same}
 use Rattle.repo_pack.specs.PackLayout.{IsBlobLength}
 use Rattle.repo_session.specs.declared.outcomes.End.{End}
 use Rattle.repo_session.specs.declared.outcomes.Outcome.{Outcome}
@@ -103,6 +103,7 @@ few_later : (e : Exchange) (es : Trace) (i j : ℕ) → parts_in e.ask + i ≡ j
 few_later e es i j more h = record {
   trees = h.trees;
   received = λ x among. received_grows e es Tree x (h.received x among);
+  read = h.read;
   apart = h.apart;
   few = (let few = h.few in omega (arith, few, more));
 }
@@ -159,6 +160,20 @@ module _ (k : Known) (m n : Moving) (puts : List Put) (es : Trace) (r : IsRepack
   same_moves : n.moves.items ≡ m.moves.items
   same_moves = ap (λ v. v.items) moves
 
+  -- the store was surveyed
+  abbrev surveyed : IsSurveyed es
+  surveyed = record {
+    none = r.none;
+    rows = k.rows;
+    snapshots = r.read.snapshots;
+    indexes = r.read.indexes;
+    packs = packs_whole k es r.read;
+    texts = r.planned.texts;
+    trees = r.planned.trees;
+    facts = k.facts;
+    gives = r.read.gives;
+  }
+
   -- packs are to be as large as the config that was read wants them
   sent_aim : n.packer.target.bytes ≡ r.read.target.0.target
   sent_aim = ap (λ (t : Target). t.bytes) target ∙ r.aim ∙ sym r.read.target.2
@@ -203,28 +218,21 @@ module _ (k : Known) (m n : Moving) (puts : List Put) (es : Trace) (r : IsRepack
       } in
       let fresh = unsent (facts_in r.kept) n.moves.items n.asked n.added fact sent n.packer.writer.items once a.asked a.before pairs in
       record {
-        none = r.none;
-        rows = k.rows;
-        snapshots = r.read.snapshots;
-        indexes = r.read.indexes;
-        texts = r.planned.texts;
-        trees = r.planned.trees;
-        facts = k.facts;
-        gives = r.read.gives;
+        known = surveyed;
         copy = must.copy;
         wanted = inr (r.planned.walked, must, λ packed. fresh (packed_one m.counts puts es r.put fact.kind fact.name packed), next);
       }
 
   -- the next blob may be asked for
   pub move_asked : (fact : Fact) → HaveCome es n.moves.items n.added → AwaitsBlob n fact (items_of puts) [] → n.listed.items ≡ m.listed.items → n.added ≡ n.asked → IsOpen n.packer.writer
-      → MayAsk prune_rule who (KnowsStage k (Stage.Moving n)) es (range_of fact)
-  move_asked fact got a listed first room =
+      → HasCome IsWanted es → MayAsk prune_rule who (KnowsStage k (Stage.Moving n)) es (range_of fact)
+  move_asked fact got a listed first room come =
       let among : Contains m.moves.items fact = subst (λ fs. Contains fs fact) same_moves (contains_got n.moves.items n.asked fact a.asked) in
       let wanted = move_wanted fact got a first room in
       record {
         work = tt;
         may = ((token, w), (fact, r.planned.moves_are fact among, refl, refl, refl));
-        allowed = (fact, wanted, refl);
+        allowed = (come, (fact, wanted, refl));
         knows = record {
           puts = puts;
           sealed = [];
@@ -288,8 +296,8 @@ module _ (k : Known) (m n : Moving) (puts : List Put) (es : Trace) (r : IsRepack
         elim s.full [ inl full ↦ inl (wants.0, wants.1, subst (λ b. IsDue (record { items = s.items; target = b })) sent_aim full) | inr all ↦ inr (sent_last all) ]
 
   -- a pack may be put
-  pub pack_asked : (sealed : Sealed) → HaveCome es n.moves.items n.added → SendsPack (items_of puts) m.listed.items sealed n → MayAsk prune_rule who (KnowsStage k (Stage.Moving n)) es (Ask.Put token Kind.Pack sealed.name sealed.bytes)
-  pack_asked sealed got s =
+  pub pack_asked : (sealed : Sealed) → HaveCome es n.moves.items n.added → SendsPack (items_of puts) m.listed.items sealed n → HasCome IsWanted es → MayAsk prune_rule who (KnowsStage k (Stage.Moving n)) es (Ask.Put token Kind.Pack sealed.name sealed.bytes)
+  pack_asked sealed got s come =
       let p : Put = put_of sealed s.items s.listed in
       let is : IsPut p = is_put (Some sealed) s.items sealed s.listed s.lists in
       let listings : List PackFacts = map (λ (q : Put). q.listed) (puts ++ []) in
@@ -299,25 +307,21 @@ module _ (k : Known) (m n : Moving) (puts : List Put) (es : Trace) (r : IsRepack
       record {
         work = tt;
         may = (w, sym s.lists.holds.named, s.lists.holds.small);
-        allowed = record {
-          none = r.none;
-          items = s.items;
-          pack = s.lists.holds.holds;
-          rows = k.rows;
-          snapshots = r.read.snapshots;
-          indexes = r.read.indexes;
-          texts = r.planned.texts;
-          trees = r.planned.trees;
-          walked = r.planned.walked;
-          facts = k.facts;
-          gives = r.read.gives;
-          moved = sent_moves sealed s;
-          once = once_behind (items_of puts) s.items (sent_once sealed s);
-          unput = sent_first sealed s;
-          next = sent_next sealed s;
-          prompt = sent_prompt sealed s;
-          full = sent_full sealed s;
-        };
+        allowed = (
+          come,
+          record {
+            known = surveyed;
+            walked = r.planned.walked;
+            items = s.items;
+            pack = s.lists.holds.holds;
+            moved = sent_moves sealed s;
+            once = once_behind (items_of puts) s.items (sent_once sealed s);
+            unput = sent_first sealed s;
+            next = sent_next sealed s;
+            prompt = sent_prompt sealed s;
+            full = sent_full sealed s;
+          },
+        );
         knows = record {
           puts = puts;
           put = p;

@@ -19,6 +19,7 @@ use Rattle.repo_wire.specs.declared.messages.Ask.{Ask}
 use Rattle.repo_wire.specs.declared.messages.Say.{Say}
 use Rattle.repo_session.specs.declared.jobs.Step.{Step}
 use Rattle.repo_session.specs.Askers.{Asker}
+use Rattle.repo_session.specs.Blobs.{HasCome}
 use Rattle.repo_session.specs.Jobs.{MayAsk}
 use Rattle.repo_session.specs.Order.{IsWorking}
 use Rattle.repo_session.specs.Traces.{Each, Exchange, Object, Trace, object_put, objects_put}
@@ -31,12 +32,12 @@ use Rattle.repo_writing.specs.Putting.{IsPacked, IsIndexed}
 use Rattle.repo_writing.specs.Writing.{Put, IsPut, items_of, AreListed, packs_of}
 use Rattle.repo_prune.specs.Moving.{items_so_far}
 use Rattle.repo_prune.specs.PruneStates.{Known, HasMoved, ArePacked, MayList, PrunePutsIndex, HasListed, KnowsStage, IsNextStep}
-use Rattle.repo_prune.specs.Pruning.{AscendByName, prune_rule, prune_task, AreCovered, AreLastListed, AreLastMoved, IsNeededBy, IsPutOrStays, Pair, pair_of_item, pair_of_fact}
+use Rattle.repo_prune.specs.Pruning.{AscendByName, prune_rule, prune_task, AreCovered, AreLastListed, AreLastMoved, IsNeededBy, IsPutOrStays, IsWanted, Pair, pair_of_item, pair_of_fact}
 use Rattle.repo_prune.specs.Relisting.{IsListable, AreListable, PutsNext, Relists}
 use Rattle.repo_prune.specs.declared.moving.Moving.{Moving}
 use Rattle.repo_prune.specs.declared.prunes.Stage.{Stage}
 use Rattle.repo_prune.specs.declared.relisting.Relisting.{Relisting}
-use Rattle.repo_prune.proofs.Asides.{IsAside, read_same}
+use Rattle.repo_prune.proofs.Asides.{IsAside, packs_whole, read_same}
 use Rattle.repo_prune.proofs.Firsts.{indexed_before, some_first, some_once}
 use Rattle.repo_prune.proofs.Pairs.{count, pairs_of, counted_has, has_counted, once_counted, counted_once, count_shuffled, repacked_pairs}
 use Rattle.repo_prune.proofs.Relistings.{in_first, first_ascend}
@@ -231,30 +232,36 @@ module _ (k : Known) (r s : Relisting) (es : Trace) (h : MayList k r es) where
       } in
       let full : IsFullIndex p.text ⊎ AreLastListed es p.waiting = elim p.full [ inl many ↦ inl (p.waiting, p.reads, many) | inr whole ↦ inr (last whole) ] in
       let next : take s.listed r.packs.items ≡ take r.listed r.packs.items ++ p.waiting = ap (take s.listed) (sym p.packs) ∙ p.behind in
-      let may : MayAsk prune_rule who (KnowsStage k (Stage.Relisting s)) es (Ask.Put token Kind.Index (naming.name p.text) p.text) = record {
+      let may : HasCome IsWanted es → MayAsk prune_rule who (KnowsStage k (Stage.Relisting s)) es (Ask.Put token Kind.Index (naming.name p.text) p.text) = λ come. record {
         work = tt;
         may = (w, refl, p.short);
-        allowed = record {
-          none = h.packed.none;
-          rows = k.rows;
-          snapshots = h.packed.read.snapshots;
-          indexes = h.packed.read.indexes;
-          texts = h.packed.covered.texts;
-          trees = h.packed.covered.trees;
-          walked = h.packed.covered.walked;
-          facts = k.facts;
-          gives = h.packed.read.gives;
-          lists = record { packs = p.waiting; reads = p.reads; some = p.some; each = λ listed has. h.packed.each listed (among listed has) };
-          written = p.written;
-          few = p.few;
-          needed = waits_needed k r es h s.listed p.waiting next;
-          once = waits_once k r es h s.listed p.waiting next;
-          first = waits_first k r es h s.listed p.waiting next;
-          behind = (take s.listed s.packs.items, all, first_ascend s.packs.items s.listed (subst AscendByName (sym p.packs) h.packed.ascend));
-          moved = h.packed.moved;
-          cut = p.cut;
-          full = full;
-        };
+        allowed = (
+          come,
+          record {
+            known = record {
+              none = h.packed.none;
+              rows = k.rows;
+              snapshots = h.packed.read.snapshots;
+              indexes = h.packed.read.indexes;
+              packs = packs_whole k es h.packed.read;
+              texts = h.packed.covered.texts;
+              trees = h.packed.covered.trees;
+              facts = k.facts;
+              gives = h.packed.read.gives;
+            };
+            walked = h.packed.covered.walked;
+            lists = record { packs = p.waiting; reads = p.reads; some = p.some; each = λ listed has. h.packed.each listed (among listed has) };
+            written = p.written;
+            few = p.few;
+            needed = waits_needed k r es h s.listed p.waiting next;
+            once = waits_once k r es h s.listed p.waiting next;
+            first = waits_first k r es h s.listed p.waiting next;
+            behind = (take s.listed s.packs.items, all, first_ascend s.packs.items s.listed (subst AscendByName (sym p.packs) h.packed.ascend));
+            moved = h.packed.moved;
+            cut = p.cut;
+            full = full;
+          },
+        );
         knows = record {
           packed = packed_as p.packs p.counts;
           waiting = p.waiting;

@@ -28,7 +28,7 @@ use Rattle.repo_tree.specs.declared.nodes.Node.{Node}
 use Rattle.repo_session.specs.declared.outcomes.End.{End}
 use Rattle.repo_session.specs.declared.outcomes.Outcome.{Outcome}
 use Rattle.repo_session.specs.Askers.{Asker}
-use Rattle.repo_session.specs.Blobs.{range_of}
+use Rattle.repo_session.specs.Blobs.{range_of, HasCome, IsBadPart}
 use Rattle.repo_session.specs.Catalogs.{IsBlobNowhere}
 use Rattle.repo_session.specs.Ends.{blob_thing, Concludes}
 use Rattle.repo_session.specs.Jobs.{MayAsk}
@@ -56,15 +56,15 @@ use Rattle.repo_writing.proofs.PutLemmas.{each_contained}
 use Rattle.repo_prune.specs.inner.Deciding.{IsPlanned}
 use Rattle.repo_prune.specs.Keeping.{Row}
 use Rattle.repo_prune.specs.PruneStates.{Known, HasOnlyListed, HaveRead, IsWalkOver, HasWalked, ArePlanned, KnowsStage}
-use Rattle.repo_prune.specs.Pruning.{IsUntouched, AreFewParts, parts_in, parts_asked, prune_rule, prune_task, IsNeededBy, IsUsedCopyBy, MayStayBy, AreWalked, IsWanted, IsBadTree, IsBadPart, PruneConcludes}
-use Rattle.repo_prune.specs.Reading.{Walks, Awaits, CannotGoOn, IsPromised, TakesTree}
+use Rattle.repo_prune.specs.Pruning.{AreFewParts, earlier, parts_in, parts_asked, prune_rule, prune_task, IsNeededBy, IsUsedCopyBy, MayStayBy, AreWalked, IsWanted, IsBadTree, IsWalking, PruneConcludes}
+use Rattle.repo_prune.specs.Reading.{Walks, WalksOn, Awaits, IsPromised, TakesTree}
 use Rattle.repo_prune.specs.declared.reading.Walked.{Walked}
-use Rattle.repo_prune.proofs.Asides.{IsAside, IsNoChange, fact_same, only_listed, read_same, untouched_same}
+use Rattle.repo_prune.proofs.Asides.{IsAside, IsNoChange, fact_same, only_listed, packs_whole, read_same, untouched_same}
 use Rattle.repo_session.proofs.Cataloguing.{fact_stays}
 use Rattle.repo_prune.specs.declared.plans.Plan.{Plan}
 use Rattle.repo_prune.specs.declared.prunes.Stage.{Stage}
 use Rattle.repo_prune.proofs.Choosing.{contained_has}
-use Rattle.repo_prune.proofs.TreeReading.{path_to}
+use Rattle.repo_prune.proofs.TreeReading.{path_to, walk_reads}
 
 -- ---- a tree is asked for
 
@@ -106,38 +106,49 @@ tree_needed k es texts trees n over (follows, depth, within, leads) =
     let reach : Reach (version_by follows) (tree_blobs texts) p.top Tree n = under_reached (version_by follows) (tree_blobs texts) p.top p.path n (subst (λ d. d ≤ greatest_depth) (sym p.long) within) p.under in
     record { row = found.0; among = found.1; reaches = by_version es k.rows over.read.snapshots found.0 found.1 (λ v t. Reach v (tree_blobs texts) t Tree n) root found.2 reach }
 
--- each part of a pack that was asked for brought a tree
-over_parts : (k : Known) (texts : List (List ℕ)) (trees : Trees) (es : Trace) → IsWalkOver k texts trees es → AreFewParts es 0
-over_parts k texts trees es over = record { trees = texts; received = over.received; apart = over.apart; few = (let few = over.parts in omega (arith, few)) }
+-- each part of a pack that was asked for brought a tree that reads
+over_parts : (k : Known) (texts : List (List ℕ)) (trees : Trees) (es : Trace) → IsWalkOver k texts trees es → Walks k.facts texts trees → AreFewParts es 0
+over_parts k texts trees es over walks = record { trees = texts; received = over.received; read = walk_reads k.facts texts trees walks; apart = over.apart; few = (let few = over.parts in omega (arith, few)) }
+
+pub over_walking : (k : Known) (texts : List (List ℕ)) (trees : Trees) (es : Trace) → IsWalkOver k texts trees es → HasCome IsWanted es → IsWalking es
+over_walking k texts trees es over come = record {
+  untouched = over.untouched;
+  packs = packs_whole k es over.read;
+  parts = record { trees = texts; received = over.received; apart = over.apart; few = over.parts };
+  come = come;
+}
 
 -- a tree that is to be asked for is wanted
 tree_wanted : (k : Known) (es : Trace) (texts : List (List ℕ)) (trees : Trees) (fact : Fact) → IsWalkOver k texts trees es → Awaits k.facts texts trees fact → IsWanted es fact
 tree_wanted k es texts trees fact over a =
     let of_tree : Tree ≡ fact.kind = sym a.next.0 in
     record {
-      none = over.untouched.none_deleted;
-      rows = k.rows;
-      snapshots = over.read.snapshots;
-      indexes = over.read.indexes;
-      texts = texts;
-      trees = record { received = over.received; one = a.walks.walk.seen.one };
-      facts = k.facts;
-      gives = over.read.gives;
+      known = record {
+        none = over.untouched.none_deleted;
+        rows = k.rows;
+        snapshots = over.read.snapshots;
+        indexes = over.read.indexes;
+        packs = packs_whole k es over.read;
+        texts = texts;
+        trees = record { received = over.received; one = a.walks.walk.seen.one };
+        facts = k.facts;
+        gives = over.read.gives;
+      };
       copy = record {
         is_used = subst (λ kind. IsNeededBy k.rows texts kind fact.name) of_tree (tree_needed k es texts trees fact.name over a.next.3);
         least = subst (λ kind. IsLeast k.facts kind fact.name fact.place) of_tree a.next.1;
       };
-      wanted = inl (a.next.0, λ x received same. (let seen = a.walks.walk.seen.known x (over.all x received) in a.next.2 seen.0 seen.1 seen.2 (seen.3 ∙ same)), over_parts k texts trees es over);
+      wanted = inl (a.next.0, λ x received same. (let seen = a.walks.walk.seen.known x (over.all x received) in a.next.2 seen.0 seen.1 seen.2 (seen.3 ∙ same)), over_parts k texts trees es over a.walks);
     }
 
 pub tree_asked : (k : Known) (who : Asker) (token : Token) (es : Trace) (texts : List (List ℕ)) (trees : Trees) (fact : Fact) → IsWorking (prune_task who) token es → IsWalkOver k texts trees es → Awaits k.facts texts trees fact
-    → MayAsk prune_rule who (KnowsStage k (Stage.Walking trees fact)) es (range_of fact)
-tree_asked k who token es texts trees fact w over a =
+    → HasCome IsWanted es → MayAsk prune_rule who (KnowsStage k (Stage.Walking trees fact)) es (range_of fact)
+tree_asked k who token es texts trees fact w over a come =
     let wanted = tree_wanted k es texts trees fact over a in
     record {
       work = tt;
       may = ((token, w), (fact, awaited_read k es texts trees fact over.read a, refl, refl, refl));
-      allowed = (fact, wanted, refl);
+      allowed = (come, (fact, wanted, refl));
       knows = record { texts = texts; over = over; awaits = a; asks = refl; wanted = wanted };
     }
 
@@ -146,70 +157,69 @@ texts_received es texts received k x h = subst (λ j. Received es j x) (sym h.0)
 
 -- ---- why it can't go on
 
-module _ (k : Known) (es : Trace) (texts : List (List ℕ)) (roots : List Root) (read : HaveRead k es) (roots_are : roots ≡ map row_root k.rows)
-    (received : (x : List ℕ) → Contains texts x → Received es Tree x) where
-  row_of : (root : Root) → Contains roots root → (row : Row) × Contains k.rows row × (row_root row ≡ root)
-  row_of root h = map_contains row_root k.rows root (subst (λ rs. Contains rs root) roots_are h)
+module _ (k : Known) (es : Trace) (texts : List (List ℕ)) (trees : Trees) (over : IsWalkOver k texts trees es) where
+  row_of : (root : Root) → Contains trees.roots.items root → (row : Row) × Contains k.rows row × (row_root row ≡ root)
+  row_of root h = map_contains row_root k.rows root (subst (λ rs. Contains rs root) over.roots h)
 
   -- a blob that a snapshot needs, and no index gives
-  pub unindexed : (kind : BlobKind) (n : Name) → IsBlobNowhere k.facts kind n → (root : Root) → Contains roots root → Reach (version_by root.follows) (tree_blobs texts) root.tree kind n
+  pub unindexed : (kind : BlobKind) (n : Name) → IsBlobNowhere k.facts kind n → (root : Root) → Contains trees.roots.items root → Reach (version_by root.follows) (tree_blobs texts) root.tree kind n
       → (snapshot : Name) × Lists es Kind.Snapshot snapshot × IsUnindexed es snapshot (blob_thing kind) n
   unindexed kind n nowhere root among reached =
       let row = row_of root among in
       let version = row.0.1.version in
       let tree = row.0.1.tree in
-      let by : Reach version (tree_blobs texts) tree kind n = by_version es k.rows read.snapshots row.0 row.1 (λ v t. Reach v (tree_blobs texts) t kind n) root row.2 reached in (
+      let by : Reach version (tree_blobs texts) tree kind n = by_version es k.rows over.read.snapshots row.0 row.1 (λ v t. Reach v (tree_blobs texts) t kind n) root row.2 reached in (
         row.0.0,
-        row_listed es k.rows read.snapshots row.0 row.1,
+        row_listed es k.rows over.read.snapshots row.0 row.1,
         record {
           kind = kind;
           called = refl;
           version = version;
           root = tree;
-          found = row_found es k.rows read.snapshots row.0 row.1;
-          reached = reach_grows version (tree_blobs texts) (Received es) (texts_received es texts received) tree kind n by;
-          indexes = read.indexes;
+          found = row_found es k.rows over.read.snapshots row.0 row.1;
+          reached = reach_grows version (tree_blobs texts) (Received es) (texts_received es texts over.received) tree kind n by;
+          indexes = over.read.indexes;
           ungiven = λ given.
               let fact : Fact = given.0 in
               let is : fact ≡ fact_of kind n fact.place = λ i. record { kind = given.2 i; name = given.3 i; place = fact.place } in
-              nowhere fact.place (subst (Contains k.facts) is ((read.gives fact).1 given.1));
+              nowhere fact.place (subst (Contains k.facts) is ((over.read.gives fact).1 given.1));
         },
       )
 
-  pub bad_tree_there : (tree : Name) (root : Root) → Contains roots root → (path : List (List ℕ)) → length path ≤ greatest_depth → Under (version_by root.follows) (tree_blobs texts) root.tree path tree → IsBroken (version_by root.follows) (tree_blobs texts) root.tree path tree → IsBadTree es tree
+  pub bad_tree_there : (tree : Name) (root : Root) → Contains trees.roots.items root → (path : List (List ℕ)) → length path ≤ greatest_depth → Under (version_by root.follows) (tree_blobs texts) root.tree path tree → IsBroken (version_by root.follows) (tree_blobs texts) root.tree path tree → IsBadTree es tree
   bad_tree_there tree root among path shallow under broken =
       let row = row_of root among in
       let version = row.0.1.version in
       let top = row.0.1.tree in
-      let at : Under version (tree_blobs texts) top path tree = by_version es k.rows read.snapshots row.0 row.1 (λ v t. Under v (tree_blobs texts) t path tree) root row.2 under in
-      let bad : IsBroken version (tree_blobs texts) top path tree = by_version es k.rows read.snapshots row.0 row.1 (λ v t. IsBroken v (tree_blobs texts) t path tree) root row.2 broken in
+      let at : Under version (tree_blobs texts) top path tree = by_version es k.rows over.read.snapshots row.0 row.1 (λ v t. Under v (tree_blobs texts) t path tree) root row.2 under in
+      let bad : IsBroken version (tree_blobs texts) top path tree = by_version es k.rows over.read.snapshots row.0 row.1 (λ v t. IsBroken v (tree_blobs texts) t path tree) root row.2 broken in
       record {
         snapshot = row.0.0;
-        among = row_listed es k.rows read.snapshots row.0 row.1;
+        among = row_listed es k.rows over.read.snapshots row.0 row.1;
         version = version;
         root = top;
-        found = row_found es k.rows read.snapshots row.0 row.1;
+        found = row_found es k.rows over.read.snapshots row.0 row.1;
         path = path;
         shallow = shallow;
-        leads = under_grows version (tree_blobs texts) (Received es) (texts_received es texts received) top path tree at;
-        broken = broken_grows version (tree_blobs texts) (Received es) (texts_received es texts received) top path tree bad;
+        leads = under_grows version (tree_blobs texts) (Received es) (texts_received es texts over.received) top path tree at;
+        broken = broken_grows version (tree_blobs texts) (Received es) (texts_received es texts over.received) top path tree bad;
       }
 
-  pub cannot_go_on : IsUntouched es → (end : End) → CannotGoOn k.facts (tree_blobs texts) roots end → PruneConcludes es (Outcome.Ended end)
-  cannot_go_on untouched (End.Missing thing n) h =
+  pub cannot_go_on : HasCome IsWanted es → AreFewParts (earlier es) 0 → (end : End) → WalksOn k.facts texts trees (Walked.Ended end) → PruneConcludes es (Outcome.Ended end)
+  cannot_go_on come before (End.Missing thing n) (h, walks) =
       let u = unindexed h.0 n h.2 h.3.0 h.3.1 h.3.2 in
-      (untouched, subst (λ t. (snapshot : Name) × Lists es Kind.Snapshot snapshot × IsUnindexed es snapshot t n) (sym h.1) u)
-  cannot_go_on untouched (End.BadObject thing tree) h =
+      (over_walking k texts trees es over come, over_parts k texts trees es over walks, subst (λ t. (snapshot : Name) × Lists es Kind.Snapshot snapshot × IsUnindexed es snapshot t n) (sym h.1) u)
+  cannot_go_on come before (End.BadObject thing tree) (h, walks) =
       let bad = bad_tree_there tree h.1.0 h.1.1 h.1.2.0 h.1.2.1 h.1.2.2 h.1.2.3 in
-      subst (λ t. PruneConcludes es (Outcome.Ended (End.BadObject t tree))) (sym h.0) (inl (untouched, bad))
-  cannot_go_on untouched End.Busy h = absurd h
-  cannot_go_on untouched End.Fenced h = absurd h
-  cannot_go_on untouched (End.Refused code) h = absurd h
-  cannot_go_on untouched End.BadReply h = absurd h
-  cannot_go_on untouched End.Version h = absurd h
-  cannot_go_on untouched End.DirectoryTooLarge h = absurd h
-  cannot_go_on untouched End.FileTooLarge h = absurd h
-  cannot_go_on untouched End.Abandoned h = absurd h
+      subst (λ t. PruneConcludes es (Outcome.Ended (End.BadObject t tree))) (sym h.0) (inl (over_walking k texts trees es over come, before, bad))
+  cannot_go_on come before End.Busy h = absurd h.0
+  cannot_go_on come before End.Fenced h = absurd h.0
+  cannot_go_on come before (End.Refused code) h = absurd h.0
+  cannot_go_on come before End.BadReply h = absurd h.0
+  cannot_go_on come before End.Version h = absurd h.0
+  cannot_go_on come before End.DirectoryTooLarge h = absurd h.0
+  cannot_go_on come before End.FileTooLarge h = absurd h.0
+  cannot_go_on come before End.Abandoned h = absurd h.0
 
 -- what an index says is within range
 pub read_within : (es : Trace) (fact : Fact) → ReadFact es fact → IsWithin fact.place.offset fact.place.length
@@ -312,10 +322,10 @@ module _ (k : Known) (trees : Trees) (es : Trace) (h : HasWalked k trees es) whe
   content_unindexed n (follows, used) nowhere =
       let reached = (used_is_reached h.texts trees h.walks.walk h.whole follows Content n).1 used in
       let root : Root = record { tree = reached.0; follows = follows } in
-      unindexed k es h.texts trees.roots.items h.over.read h.over.roots h.over.received Content n nowhere root reached.1 reached.2
+      unindexed k es h.texts trees h.over Content n nowhere root reached.1 reached.2
 
 pub walked_parts : (k : Known) (trees : Trees) (es : Trace) → HasWalked k trees es → AreFewParts es 0
-walked_parts k trees es h = over_parts k h.texts trees es h.over
+walked_parts k trees es h = over_parts k h.texts trees es h.over h.walks
 
 -- ---- at the begin
 
@@ -349,6 +359,20 @@ none_asked (e ∷ es) none =
       | inl one ↦ absurd (none one.0 one.1 one.2 (inl one.3))
       | inr zero ↦ omega (arith, zero, more)
     ]
+
+-- before any was
+unasked_parts : (es : Trace) → parts_asked es ≡ 0 → AreFewParts es 0
+unasked_parts es none = record {
+  trees = [];
+  received = λ x h. absurd (none_contained x h);
+  read = λ x h. absurd (none_contained x h);
+  apart = λ i j d before within. absurd (omega (arith, within));
+  few = omega (arith, none);
+}
+
+pub first_parts : (es : Trace) → HasOnlyListed es → AreFewParts (earlier es) 0
+first_parts [] listed = unasked_parts [] refl
+first_parts (e ∷ es) listed = unasked_parts es (none_asked es (λ pack offset len was. listed.none_ranged pack offset len (inr was)))
 
 pub first_over : (k : Known) (trees : Trees) (es : Trace) → HaveRead k es → HasOnlyListed es → trees.roots.items ≡ map (λ (row : Row). root_of row.1.tree row.1.version) k.rows → IsWalkOver k [] trees es
 first_over k trees es read listed roots = record {
@@ -390,7 +414,7 @@ walk_more k texts trees new fact e es x over a is promised roots =
     }
 
 -- a blob that came bad ends the prune
-pub part_ends : (es : Trace) (thing : Thing) (name : Name) → IsBadPart es thing name → PruneConcludes es (Outcome.Ended (End.BadObject thing name))
+pub part_ends : (es : Trace) (thing : Thing) (name : Name) → IsBadPart IsWanted es thing name → PruneConcludes es (Outcome.Ended (End.BadObject thing name))
 part_ends es Thing.Tree name bad = inr bad
 part_ends es Thing.Content name bad = bad
 part_ends es Thing.Pack name bad = bad
@@ -402,8 +426,9 @@ pub tree_ended : (known : ℕ) (k : Known) (texts : List (List ℕ)) (trees new 
     → e.ask ≡ range_of fact → IsWanted es fact → new.roots ≡ trees.roots → TakesTree k.facts texts fact e.say new (Walked.Ended end) → Concludes known PruneConcludes (e ∷ es) (Outcome.Ended end)
 tree_ended known k texts trees new fact e es end over a is wanted roots (inl (x, said, bad, same)) =
     let kind : Thing.Tree ≡ blob_thing fact.kind = sym (ap blob_thing a.next.0) in
-    let part : IsBadPart (e ∷ es) Thing.Tree fact.name = (fact, wanted, (is, x, said, bad), kind, refl) in
+    let part : IsBadPart IsWanted (e ∷ es) Thing.Tree fact.name = (fact, wanted, (is, x, said, bad), kind, refl) in
     subst (λ z. Concludes known PruneConcludes (e ∷ es) (Outcome.Ended z)) (sym same) (inr (part_ends (e ∷ es) Thing.Tree fact.name part))
 tree_ended known k texts trees new fact e es end over a is wanted roots (inr (x, promised, why)) =
     let more = walk_more k texts trees new fact e es x over a is promised roots in
-    inr (cannot_go_on k (e ∷ es) (texts ++ x ∷ []) new.roots.items more.read more.roots more.received more.untouched end why)
+    let come : HasCome IsWanted (e ∷ es) = λ part. (fact, wanted, (is, x, promised.bytes, promised.long, promised.named)) in
+    inr (cannot_go_on k (e ∷ es) (texts ++ x ∷ []) new more come (over_parts k texts trees es over a.walks) end why)

@@ -28,7 +28,7 @@ lists_put_or_kept es x h = record {
   packs = h.lists.packs;
   reads = h.lists.reads;
   some = h.lists.some;
-  each = λ listed among. put_or_kept es _ h.facts h.gives listed (h.lists.each listed among);
+  each = λ listed among. put_or_kept es _ h.known.facts h.known.gives listed (h.lists.each listed among);
 }
 
 -- over an exchange

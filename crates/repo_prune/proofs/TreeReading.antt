@@ -23,8 +23,9 @@ use Rattle.repo_reach.proofs.Leading.{goes_push}
 use Rattle.repo_reach.proofs.Rewinding.{got_or}
 use Rattle.repo_reach.specs.Breaking.{IsTooLow, IsMalformed, IsMisplaced}
 use Rattle.repo_reach.specs.Collected.{tree_blobs, version_by, LeadsTo}
+use Rattle.repo_reach.specs.Joints.{SaysNext}
 use Rattle.repo_reach.specs.Links.{trees_in}
-use Rattle.repo_reach.specs.Walks.{IsWalk, WasAt, StandsAt, IsLedTo, TurnIs, AreSameTrees, IsSameWalk, IsNewTree, HasRead, Adds, IsUnchanged, NoneLooked, BrokenOnes, TellsBroken}
+use Rattle.repo_reach.specs.Walks.{HasText, IsWalk, WasAt, StandsAt, IsLedTo, TurnIs, AreSameTrees, IsSameWalk, IsNewTree, HasRead, Adds, IsUnchanged, NoneLooked, BrokenOnes, TellsBroken}
 use Rattle.repo_reach.specs.declared.joints.Joint.{Joint}
 use Rattle.repo_reach.specs.declared.joints.Next.{Next}
 use Rattle.repo_reach.specs.declared.links.Links.{Links}
@@ -112,15 +113,15 @@ module _ (facts : List Fact) (texts : List (List ℕ)) (trees : Trees) where
   pub asked : (fact : Fact) → Walks facts texts trees → TurnIs facts texts trees (turn.Ask fact) → WalksOn facts texts trees (Walked.Ask fact)
   asked fact w h = record { walks = w; next = h }
 
-  pub was_missing : (n : Name) → TurnIs facts texts trees (turn.Missing n) → WalksOn facts texts trees (Walked.Ended (End.Missing Thing.Tree n))
-  was_missing n h =
+  pub was_missing : (n : Name) → Walks facts texts trees → TurnIs facts texts trees (turn.Missing n) → WalksOn facts texts trees (Walked.Ended (End.Missing Thing.Tree n))
+  was_missing n w h =
       let p = path_to texts roots h.2.0 h.2.1 n h.2.3 in
-      (Tree, refl, h.0, (record { tree = p.top; follows = h.2.0 }, p.among, under_reached (version_by h.2.0) B p.top p.path n (subst (λ d. d ≤ greatest_depth) (sym p.long) h.2.2) p.under))
+      ((Tree, refl, h.0, (record { tree = p.top; follows = h.2.0 }, p.among, under_reached (version_by h.2.0) B p.top p.path n (subst (λ d. d ≤ greatest_depth) (sym p.long) h.2.2) p.under)), w)
 
   pub was_broken : (n : Name) → TurnIs facts texts trees (turn.Broken n) → WalksOn facts texts trees (Walked.Ended (End.BadObject Thing.Tree n))
-  was_broken n (inl h) = too_low n h
-  was_broken n (inr (inl h)) = malformed n h
-  was_broken n (inr (inr h)) = misplaced n h
+  was_broken n (inl h) = (too_low n h, tt)
+  was_broken n (inr (inl h)) = (malformed n h, tt)
+  was_broken n (inr (inr h)) = (misplaced n h, tt)
 
   pub was_done : Walks facts texts trees → TurnIs facts texts trees turn.Done → WalksOn facts texts trees Walked.Done
   was_done w h = (w, record { waiting = h.0; roots = h.1; read = λ i seen there. (w.found i seen there).0 })
@@ -209,9 +210,28 @@ no_tree facts texts trees fact name x a is named none =
     let follows = a.next.3.0 in
     let p = path_to texts trees.roots.items follows a.next.3.1 fact.name a.next.3.3 in
     let more = texts ++ x ∷ [] in
-    let under = under_grows (version_by follows) (tree_blobs texts) (tree_blobs more) (texts_grow texts x) p.top p.path fact.name p.under in
-    bad facts more trees follows p.top name p.path p.among (subst (λ d. d ≤ greatest_depth) (sym p.long) a.next.3.2) (subst (Under (version_by follows) (tree_blobs more) p.top p.path) is under)
-    (inl (x, (refl, Contains-append_right texts (x ∷ []) x (first_contained x [])), named, no_text follows x none))
+    let under = under_grows (version_by follows) (tree_blobs texts) (tree_blobs more) (texts_grow texts x) p.top p.path fact.name p.under in (
+      bad facts more trees follows p.top name p.path p.among (subst (λ d. d ≤ greatest_depth) (sym p.long) a.next.3.2) (subst (Under (version_by follows) (tree_blobs more) p.top p.path) is under)
+          (inl (x, (refl, Contains-append_right texts (x ∷ []) x (first_contained x [])), named, no_text follows x none)),
+      tt,
+    )
+
+-- ---- what was read
+
+says_tree : (x : List ℕ) (nodes : List Node) (next : Next) → SaysNext x nodes next → IsTreeText x nodes
+says_tree x nodes Next.Absent h = record { root = h.root; json = h.json; tree = h.tree }
+says_tree x nodes (Next.Tree n) h = record { root = h.root; json = h.json; tree = h.tree }
+says_tree x nodes Next.Malformed h = h.0
+
+-- each text of a walk reads
+pub walk_reads : (facts : List Fact) (texts : List (List ℕ)) (trees : Trees) → Walks facts texts trees → (x : List ℕ) → Contains texts x → (nodes : List Node) × IsTreeText x nodes
+walk_reads facts texts trees w x among =
+    let known = w.walk.seen.known x among in
+    let seen : Seen = known.1 in
+    let links = (w.found known.0 seen known.2).0 in
+    let has : HasText texts seen.name seen.joint (Some links.0) = subst (HasText texts seen.name seen.joint) links.1 (w.walk.seen.each known.0 seen known.2).text in
+    let one : has.0 ≡ x = w.walk.seen.one has.0 x has.2 among (has.3 ∙ known.3) in
+    (has.1, says_tree x has.1 seen.joint.next (subst (λ (y : List ℕ). SaysNext y has.1 seen.joint.next) one has.4))
 
 -- what comes of the promised bytes
 pub promised : (facts : List Fact) (texts : List (List ℕ)) (fact : Fact) (say : Say) (trees : Trees) (x : List ℕ) → IsPromised fact say x → (walked : Walked) → WalksOn facts (texts ++ x ∷ []) trees walked → TakesTree facts texts fact say trees walked

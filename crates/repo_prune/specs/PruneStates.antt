@@ -22,11 +22,11 @@ use Rattle.repo_session.specs.declared.versions.Versions.{Versions}
 use Rattle.repo_session.specs.declared.jobs.Step.{Step}
 use Rattle.repo_session.specs.declared.rolls.Roll.{Roll}
 use Rattle.repo_session.specs.Askers.{Asker}
-use Rattle.repo_session.specs.Blobs.{range_of}
+use Rattle.repo_session.specs.Blobs.{range_of, HasCome}
 use Rattle.repo_session.specs.Catalogs.{AreIndexed, Catalogs, IsAll}
 use Rattle.repo_session.specs.Deletions.{DeleteDone, NoneDeleted, names_deleted}
 use Rattle.repo_session.specs.Ends.{Concludes}
-use Rattle.repo_session.specs.Jobs.{HeedsVersion, MayAsk, StepsOn}
+use Rattle.repo_session.specs.Jobs.{HeedsReply, MayAsk, StepsOn}
 use Rattle.repo_session.specs.Listings.{IsSnapshotListing, IsFreshRoll, KnowsSnapshots}
 use Rattle.repo_session.specs.Order.{IsWorking}
 use Rattle.repo_session.specs.Readings.{KnowsIndexes, KnowsRoll}
@@ -350,10 +350,10 @@ KnowsPrune j ask es = KnowsStage (known_in j) j.stage ask es
 
 -- ---- what comes next
 
--- in a stage: this may be asked, and is known then; or it may end so
+-- in a stage, where the blob that was asked for last came: this may be asked, and is known then; or it may end so
 abbrev pub IsNextStep : Known → Asker → Stage → Step → Trace → Type 0
-IsNextStep k who stage (Step.Ask ask) es = MayAsk prune_rule who (KnowsStage k stage) es ask
-IsNextStep k who stage (Step.Finish outcome) es = Concludes (upto who.versions) PruneConcludes es outcome
+IsNextStep k who stage (Step.Ask ask) es = HasCome IsWanted es → MayAsk prune_rule who (KnowsStage k stage) es ask
+IsNextStep k who stage (Step.Finish outcome) es = HasCome IsWanted es → Concludes (upto who.versions) PruneConcludes es outcome
 IsNextStep k who stage Step.Want es = ⊥
 IsNextStep k who stage Step.Away es = ⊥
 
@@ -392,9 +392,13 @@ StepsFrom old token ask say step new = (who : Asker) → StepsOn prune_rule (rec
 abbrev pub StepsFor : Versions → Prune → Token → Ask → Say → Step → Prune → Type 0
 StepsFor versions old token ask say step new = (who : Asker) → who.versions ≡ versions → StepsOn prune_rule (record { who = who; token = token }) (KnowsPrune old) (KnowsPrune new) (silent ask say) step
 
--- where who prunes knows these versions, a reply that brings a snapshot of another version ends the prune, for that
+-- where a job ends at once on an exchange, the step ends the prune by that
+abbrev pub HeedsFrom : Prune → Token → Ask → Say → Step → Type 0
+HeedsFrom old token ask say step = (who : Asker) → HeedsReply prune_rule (record { who = who; token = token }) (KnowsPrune old) (silent ask say) step
+
+-- where who prunes knows these versions
 abbrev pub HeedsFor : Versions → Prune → Token → Ask → Say → Step → Type 0
-HeedsFor versions old token ask say step = (who : Asker) → who.versions ≡ versions → HeedsVersion prune_rule (record { who = who; token = token }) (KnowsPrune old) (silent ask say) step
+HeedsFor versions old token ask say step = (who : Asker) → who.versions ≡ versions → HeedsReply prune_rule (record { who = who; token = token }) (KnowsPrune old) (silent ask say) step
 
 -- where its reply wasn't taken, what was known is known
 abbrev pub KnowsAsMuch : Prune → Ask → Prune → Type 0

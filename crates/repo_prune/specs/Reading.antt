@@ -55,11 +55,16 @@ CannotGoOn facts B roots (End.BadObject thing tree) = (thing ≡ Thing.Tree)
     × ((root : Root) × Contains roots root × ((path : List (List ℕ)) × (length path ≤ greatest_depth) × Under (version_by root.follows) B root.tree path tree × IsBroken (version_by root.follows) B root.tree path tree))
 CannotGoOn facts B roots _ = ⊥
 
+-- where a blob is missing, the walk is one still
+abbrev pub IsWalkAt : List Fact → List (List ℕ) → Trees → End → Type 0
+IsWalkAt facts texts trees (End.Missing thing name) = Walks facts texts trees
+IsWalkAt facts texts trees _ = ⊤
+
 -- what comes next of it
 abbrev pub WalksOn : List Fact → List (List ℕ) → Trees → Walked → Type 0
 WalksOn facts texts trees (Walked.Ask fact) = Awaits facts texts trees fact
 WalksOn facts texts trees Walked.Done = Walks facts texts trees × IsWholeWalk trees
-WalksOn facts texts trees (Walked.Ended end) = CannotGoOn facts (tree_blobs texts) trees.roots.items end
+WalksOn facts texts trees (Walked.Ended end) = CannotGoOn facts (tree_blobs texts) trees.roots.items end × IsWalkAt facts texts trees end
 WalksOn facts texts trees Walked.Away = ⊥
 
 -- what is known of a walk that takes this turn: where a tree is broken, no more than that

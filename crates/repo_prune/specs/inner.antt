@@ -6,3 +6,4 @@ pub mod Indexing
 pub mod Deciding
 pub mod Deleting
 pub mod Replies
+pub mod Sorts

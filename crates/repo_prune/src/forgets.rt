@@ -1,16 +1,19 @@
 //! The forgetting of a store's snapshots.
 
-ghost use Rattle.std.specs.Prelude.{◌≡◌, ◌↔◌, [], List, Option, IfOk, OnErr, IsErr};
+ghost use Rattle.std.specs.Prelude.{◌≡◌, ◌⊎◌, ◌↔◌, [], IfOk, OnErr, IsErr};
 ghost use Rattle.repo_name.specs.declared.kinds.Kind.{Kind};
 ghost use Rattle.repo_name.specs.declared.names.Name.{Name};
 ghost use Rattle.repo_wire.specs.declared.messages.Ask.{Ask};
-ghost use Rattle.repo_session.specs.Jobs.{HeedsVersion, IsShortStep, StepsOn};
+ghost use Rattle.repo_wire.specs.declared.messages.Say.{Say};
+ghost use Rattle.repo_session.specs.Jobs.{HeedsReply, IsShortStep, StepsOn};
 ghost use Rattle.repo_session.specs.Listings.{KnowsAsMuch};
 ghost use Rattle.repo_session.specs.Traces.{silent};
 ghost use Rattle.repo_session.specs.Sessions.{who_in};
+ghost use Rattle.repo_session.specs.declared.jobs.Step.{Step};
 ghost use Rattle.repo_prune.specs.declared.choices.Choice.{Choice};
 ghost use Rattle.repo_prune.specs.Forgetting.{AreChosenOf, IsNoPolicy, WouldForget, forget_rule};
 ghost use Rattle.repo_prune.specs.ForgetStates.{FitsForget, IsFreshForget, KnowsDelete, KnowsForget, KnowsReading, ForgetBegins, ForgetGoesOn, ReadsOnByPolicy, TakesPageByNames, choice_of};
+ghost use Rattle.repo_prune.specs.inner.Sorts.{IsPage};
 
 use crate::choices::{Choice, ForgetError};
 use crate::picking::{chosen, would_forget};
@@ -97,6 +100,7 @@ impl Forget {
     /// Takes the reply to a delete. It takes no memory.
     fn take_delete(&mut self, holder: &Holder, ask: &Ask, say: &Say) -> Step
         ensures steps { StepsOn (forget_rule self.old.choice) holder.now (KnowsDelete self.old) (KnowsForget self.new) (silent ask.now say.now) result }
+        ensures heeds { (result ≡ Step.Away) ⊎ (say.now ≡ Say.Done) }
         ensures short { IsShortStep result }
         ensures choice { self.new.choice ≡ self.old.choice }
     {
@@ -144,6 +148,7 @@ impl Forget {
     /// known is known.
     fn take_page(&mut self, holder: &Holder, say: &Say) -> Result<Step, AllocError>
         ensures steps { IfOk result (λ step. TakesPageByNames self.old holder.now say.now step self.new) }
+        ensures heeds { IfOk result (λ step. (step ≡ Step.Away) ⊎ IsPage say.now) }
         ensures short { IfOk result IsShortStep }
         ensures knows { OnErr result (KnowsAsMuch self.old.snapshots self.new.snapshots) }
         ensures choice { self.new.choice ≡ self.old.choice }
@@ -164,11 +169,11 @@ impl Forget {
         }
     }
 
-    /// Takes the reply to a request of the reading, where a policy chooses: a snapshot of a version that isn't known ends
-    /// it. It fails for memory alone, and then what was known is known.
+    /// Takes the reply to a request of the reading, where a policy chooses: one that isn't wanted, or brings a snapshot of
+    /// a version that isn't known, ends it. It fails for memory alone, and then what was known is known.
     fn take_reading(&mut self, holder: &Holder, ask: &Ask, say: &Say) -> Result<Step, AllocError>
         ensures steps { IfOk result (λ step. ReadsOnByPolicy self.old holder.now ask.now say.now step self.new) }
-        ensures heeds { IfOk result (HeedsVersion (forget_rule self.old.choice) holder.now (KnowsReading self.old) (silent ask.now say.now)) }
+        ensures heeds { IfOk result (HeedsReply (forget_rule self.old.choice) holder.now (KnowsReading self.old) (silent ask.now say.now)) }
         ensures short { IfOk result IsShortStep }
         ensures knows { OnErr result (KnowsAsMuch self.old.snapshots self.new.snapshots) }
         ensures choice { self.new.choice ≡ self.old.choice }

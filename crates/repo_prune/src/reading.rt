@@ -1,10 +1,10 @@
 //! The reading of the trees that snapshots reach, as a prune does it.
 
-ghost use Rattle.std.specs.Prelude.{◌≡◌, ℕ, List, length, IfOk, OnErr};
-ghost use Rattle.repo_name.specs.Naming as naming;
+ghost use Rattle.std.specs.Prelude.{◌≡◌, ◌⊎◌, ℕ, List, IfOk, OnErr};
 ghost use Rattle.repo_name.specs.declared.names.Name.{Name};
 ghost use Rattle.repo_index.specs.declared.facts.Fact.{Fact};
 ghost use Rattle.repo_reach.specs.Walks.{IsSameWalk};
+ghost use Rattle.repo_prune.specs.inner.Sorts.{IsBytes};
 ghost use Rattle.repo_prune.specs.Reading.{Walks, Awaits, WalksOn, HasTaken, WalksBy, AddsTree, AddsText, AwaitsTreeStill, TakesAwaited, UntakesTree};
 ghost use Rattle.repo_prune.specs.declared.reading.Walked.{Walked};
 ghost use Rattle.repo_reach.specs.declared.trees.Trees.{Trees};
@@ -115,6 +115,7 @@ pub fn take_tree(
     say: &Say,
 ) -> Result<Walked, AllocError>
     ensures takes { IfOk result (λ walked. TakesAwaited lookup.now fact say.now trees.old walked trees.new) }
+    ensures heeds { IfOk result (λ walked. (walked ≡ Walked.Away) ⊎ IsBytes say.now) }
     ensures still { OnErr result ((texts : List (List ℕ)) → Awaits lookup.now texts trees.old fact → Awaits lookup.now texts trees.new fact) }
     ensures taken { IfOk result (λ walked. walked ≡ Walked.Done → HasTaken trees.old fact.name trees.new) }
     ensures roots { trees.new.roots ≡ trees.old.roots }

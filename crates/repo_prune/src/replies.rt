@@ -1,6 +1,6 @@
 //! What a prune makes of the replies to its other requests: parts of packs, puts and deletes.
 
-ghost use Rattle.std.specs.Prelude.{◌≡◌, ℕ, List, IfOk, OnErr};
+ghost use Rattle.std.specs.Prelude.{◌≡◌, ◌⊎◌, ℕ, List, IfOk, OnErr};
 ghost use Rattle.repo_name.specs.declared.kinds.Kind.{Kind};
 ghost use Rattle.repo_name.specs.declared.names.Name.{Name};
 ghost use Rattle.repo_name.specs.declared.tokens.Token.{Token};
@@ -18,6 +18,7 @@ ghost use Rattle.repo_prune.specs.declared.prunes.Stage.{Stage};
 ghost use Rattle.repo_prune.specs.declared.relisting.Relisting.{Relisting};
 ghost use Rattle.repo_prune.specs.PruneStates.{known_in, AwaitsAgain, StepsFrom, KnowsAsMuch};
 ghost use Rattle.repo_prune.specs.inner.Replies.{StepsInWalk, KnowsInWalk, EndsWalk, StepsInMoves, KnowsInMoves, EndsMoves, EndsIndexes, StepsFromPut};
+ghost use Rattle.repo_prune.specs.inner.Sorts.{IsBytes};
 
 use crate::advancing::{end, move_on};
 use crate::moving::Moved;
@@ -41,6 +42,7 @@ impl Prune {
     /// Takes the reply to the request for a tree. It fails for memory alone, and then what was known is known.
     fn take_tree(&mut self, token: Token, say: &Say) -> Result<Step, AllocError>
         ensures steps { IfOk result (λ step. StepsInWalk self.old token say.now step self.new) }
+        ensures heeds { IfOk result (λ step. (step ≡ Step.Away) ⊎ IsBytes say.now) }
         ensures short { IfOk result IsShortStep }
         ensures knows { OnErr result (KnowsInWalk self.old self.new) }
     {
@@ -91,6 +93,7 @@ impl Prune {
     /// known.
     fn take_blob(&mut self, token: Token, say: &Say) -> Result<Step, AllocError>
         ensures steps { IfOk result (λ step. StepsInMoves self.old token say.now step self.new) }
+        ensures heeds { IfOk result (λ step. (step ≡ Step.Away) ⊎ IsBytes say.now) }
         ensures short { IfOk result IsShortStep }
         ensures knows { OnErr result (KnowsInMoves self.old self.new) }
     {
@@ -111,6 +114,7 @@ impl Prune {
     /// Takes the reply to a request for a part of a pack. It fails for memory alone, and then what was known is known.
     pub fn take_range(&mut self, token: Token, say: &Say) -> Result<Step, AllocError>
         ensures steps { IfOk result (λ step. (pack : Name) (offset len : ℕ) → StepsFrom self.old token (Ask.Range pack offset len) say.now step self.new) }
+        ensures heeds { IfOk result (λ step. (step ≡ Step.Away) ⊎ IsBytes say.now) }
         ensures short { IfOk result IsShortStep }
         ensures knows { OnErr result ((pack : Name) (offset len : ℕ) → KnowsAsMuch self.old (Ask.Range pack offset len) self.new) }
     {
@@ -180,6 +184,7 @@ impl Prune {
     /// Takes the reply to a put. It fails for memory alone, and then what was known is known.
     pub fn take_put(&mut self, token: Token, kind: Kind, say: &Say) -> Result<Step, AllocError>
         ensures steps { IfOk result (λ step. StepsFromPut kind say.now self.old token step self.new) }
+        ensures heeds { IfOk result (λ step. (step ≡ Step.Away) ⊎ (say.now ≡ Say.Done)) }
         ensures short { IfOk result IsShortStep }
         ensures knows { OnErr result ((own : Token) (name : Name) (bytes : List ℕ) → KnowsAsMuch self.old (Ask.Put own kind name bytes) self.new) }
     {
@@ -205,6 +210,7 @@ impl Prune {
     /// Takes the reply to a delete. It takes no memory.
     pub fn take_delete(&mut self, token: Token, kind: Kind, say: &Say) -> Step
         ensures steps { (own : Token) (name : Name) → StepsFrom self.old token (Ask.Delete own kind name) say.now result self.new }
+        ensures heeds { (result ≡ Step.Away) ⊎ (say.now ≡ Say.Done) }
         ensures short { IsShortStep result }
     {
         match say {

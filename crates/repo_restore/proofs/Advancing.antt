@@ -22,7 +22,7 @@ use Rattle.repo_session.specs.Askers.{Asker}
 use Rattle.repo_session.specs.Catalogs.{Catalogs, IsAll, IsBlobNowhere}
 use Rattle.repo_session.specs.Ends.{Concludes, blob_thing}
 use Rattle.repo_session.specs.Jobs.{task_under, known_under, MayAsk}
-use Rattle.repo_session.specs.Blobs.{IsBadBlob, range_of}
+use Rattle.repo_session.specs.Blobs.{HasCome, IsBadBlob, IsBadPart, range_of}
 use Rattle.repo_session.specs.Order.{IsReading, IsWorking, ReadsKind, opened}
 use Rattle.repo_session.specs.Readings.{KnowsIndexes}
 use Rattle.repo_session.specs.Rebuilding.{rebuilt, Follow}
@@ -39,7 +39,8 @@ use Rattle.repo_restore.specs.declared.walks.Turn.{Turn}
 use Rattle.repo_restore.specs.declared.walks.Walk.{Walk}
 use Rattle.repo_session.specs.Received.{Received}
 use Rattle.repo_session.specs.Trees.{HasRoot, Under, IsUnindexed}
-use Rattle.repo_restore.specs.Restoring.{HasLength, IsMissing, IsBadPart, IsBadTree, IsForBlob, HasGoneOn, IsAskedOnce, MayGive, counted, restore_rule, RestoreAllows, RestoreConcludes, Sums}
+use Rattle.repo_restore.specs.Restoring.{HasLength, IsMissing, IsDueBlob, IsBadTree, HasGoneOn, IsAskedOnce, MayGive, counted, restore_rule, RestoreAllows, RestoreConcludes, Sums}
+use Rattle.repo_session.specs.Ends.{AsksPart}
 use Rattle.repo_restore.specs.RestoreStates.{IsRefused, IsRangeOf, IsBefore, IsNewRestore, IsWalking, KnowsAtStage, KnowsRestore, RestoreTurnIs, TurnIsOnce}
 use Rattle.repo_restore.specs.Positions.{IsOwnTree, IsFurtherTree, IsNextFile}
 use Rattle.repo_restore.specs.Moves.{BlobMoves}
@@ -120,28 +121,28 @@ missing c s version root es name h all found kind none reached lacks = by kind n
 
 -- a walk's end by itself is one that a restore may have
 walk_ended : (known : ℕ) (c : Catalog) (s : Name) (version : ℕ) (root : Name) (es : Trace) (end : End) → Catalogs c true es → IsAll c → HasRoot es s version root → WalkEnds c.lookup version (Received es) root (emitted_in es) end
-    → Concludes known (RestoreConcludes s) es (Outcome.Ended end)
-walk_ended known c s version root es (End.Missing thing name) h all found e = inr (subst (λ t. IsMissing es s t name) (sym e.1) (missing c s version root es name h all found e.0 e.2 e.3 e.4))
-walk_ended known c s version root es (End.BadObject thing tree) h all found e =
-    subst (λ t. Concludes known (RestoreConcludes s) es (Outcome.Ended (End.BadObject t tree))) (sym e.0) (inr (inl (bad_tree c s version root es tree h found e.1 e.2)))
-walk_ended known c s version root es End.Busy h all found e = absurd e
-walk_ended known c s version root es End.Fenced h all found e = absurd e
-walk_ended known c s version root es (End.Refused code) h all found e = absurd e
-walk_ended known c s version root es End.BadReply h all found e = absurd e
-walk_ended known c s version root es End.Version h all found e = absurd e
-walk_ended known c s version root es End.DirectoryTooLarge h all found e = absurd e
-walk_ended known c s version root es End.FileTooLarge h all found e = absurd e
-walk_ended known c s version root es End.Abandoned h all found e = absurd e
+    → HasCome (IsDueBlob s) es → Concludes known (RestoreConcludes s) es (Outcome.Ended end)
+walk_ended known c s version root es (End.Missing thing name) h all found e came = inr (subst (λ t. IsMissing es s t name) (sym e.1) (missing c s version root es name h all found e.0 e.2 e.3 e.4), came)
+walk_ended known c s version root es (End.BadObject thing tree) h all found e came =
+    subst (λ t. Concludes known (RestoreConcludes s) es (Outcome.Ended (End.BadObject t tree))) (sym e.0) (inr (inl (bad_tree c s version root es tree h found e.1 e.2, came)))
+walk_ended known c s version root es End.Busy h all found e came = absurd e
+walk_ended known c s version root es End.Fenced h all found e came = absurd e
+walk_ended known c s version root es (End.Refused code) h all found e came = absurd e
+walk_ended known c s version root es End.BadReply h all found e came = absurd e
+walk_ended known c s version root es End.Version h all found e came = absurd e
+walk_ended known c s version root es End.DirectoryTooLarge h all found e came = absurd e
+walk_ended known c s version root es End.FileTooLarge h all found e came = absurd e
+walk_ended known c s version root es End.Abandoned h all found e came = absurd e
 
 -- and a tree that was refused
-refused_concludes : (known : ℕ) (s : Name) (version : ℕ) (root : Name) (es : Trace) (end : End) → HasRoot es s version root → IsRefused es version root end → Concludes known (RestoreConcludes s) es (Outcome.Ended end)
-refused_concludes known s version root es end found r =
-    subst (λ x. Concludes known (RestoreConcludes s) es (Outcome.Ended x)) (sym r.2) (inr (inl (record { version = version; root = root; path = r.1; found = found; leads = r.3; shallow = r.4; unfit = inl r.5 })))
+refused_concludes : (known : ℕ) (s : Name) (version : ℕ) (root : Name) (es : Trace) (end : End) → HasRoot es s version root → IsRefused es version root end → HasCome (IsDueBlob s) es → Concludes known (RestoreConcludes s) es (Outcome.Ended end)
+refused_concludes known s version root es end found r came =
+    subst (λ x. Concludes known (RestoreConcludes s) es (Outcome.Ended x)) (sym r.2) (inr (inl (record { version = version; root = root; path = r.1; found = found; leads = r.3; shallow = r.4; unfit = inl r.5 }, came)))
 
 -- a walk's end is one that a restore may have
 pub walk_concludes : (known : ℕ) (c : Catalog) (s : Name) (version : ℕ) (root : Name) (es : Trace) (end : End) → Catalogs c true es → IsAll c → HasRoot es s version root
-    → WalkEnds c.lookup version (Received es) root (emitted_in es) end ⊎ IsRefused es version root end → Concludes known (RestoreConcludes s) es (Outcome.Ended end)
-walk_concludes known c s version root es end h all found e = ⊎_elim (λ w. walk_ended known c s version root es end h all found w) (λ r. refused_concludes known s version root es end found r) e
+    → WalkEnds c.lookup version (Received es) root (emitted_in es) end ⊎ IsRefused es version root end → HasCome (IsDueBlob s) es → Concludes known (RestoreConcludes s) es (Outcome.Ended end)
+walk_concludes known c s version root es end h all found e came = ⊎_elim (λ w. walk_ended known c s version root es end h all found w came) (λ r. refused_concludes known s version root es end found r came) e
 
 -- the tree that the newest exchange brought was refused
 pub refused_now : (e : Exchange) (es : Trace) (version : ℕ) (root name : Name) (x : List ℕ) (out : List Emission) (end : End) → e.say ≡ Say.Bytes x → naming.name x ≡ name → e.emitted ≡ out
@@ -288,7 +289,7 @@ range_taken j version fact e bytes es of said k =
 
 -- ---- nothing is asked for again
 
-index_no_blob : (c : Catalog) (ask : Ask) (es : Trace) → KnowsIndexes c ask es → ¬ IsForBlob ask
+pub index_no_blob : (c : Catalog) (ask : Ask) (es : Trace) → KnowsIndexes c ask es → ¬ AsksPart ask
 index_no_blob c (Ask.Range pack offset len) es h = absurd h
 index_no_blob c (Ask.List k after) es h = λ x. x
 index_no_blob c (Ask.Get k n) es h = λ x. x
@@ -346,8 +347,14 @@ module _ (facts : List Fact) (version : ℕ) (root : Name) (old new : Walk) (fac
 
 -- ---- other bytes came
 
+-- the blob that the walk waits for is due
+pub blob_due : (j : Restore) (version : ℕ) (fact : Fact) (es : Trace) → IsWalking j version fact es → IsDueBlob j.snapshot es fact
+blob_due j version fact es k =
+    let next = waits_next j.catalog.lookup version (Received es) k.root j.walk.levels.items j.walk.sent fact (emitted_in es) j.walk.onward j.walk.entries k.waits in
+    (fact_read j.catalog es fact k.indexes k.waits.least, (version, k.root, k.found, next, k.once))
+
 -- of a part that is bad a restore may tell so, be it a tree or content
-part_concludes : (s : Name) (es : Trace) (kind : BlobKind) (name : Name) → IsBadPart es s (blob_thing kind) name → RestoreConcludes s es (Outcome.Ended (End.BadObject (blob_thing kind) name))
+part_concludes : (s : Name) (es : Trace) (kind : BlobKind) (name : Name) → IsBadPart (IsDueBlob s) es (blob_thing kind) name → RestoreConcludes s es (Outcome.Ended (End.BadObject (blob_thing kind) name))
 part_concludes s es BlobKind.Tree name h = inr h
 part_concludes s es BlobKind.Content name h = h
 
@@ -355,6 +362,4 @@ part_concludes s es BlobKind.Content name h = h
 pub part_refused : (known : ℕ) (j : Restore) (version : ℕ) (fact : Fact) (e : Exchange) (bytes : List ℕ) (es : Trace) → IsRangeOf fact e.ask → e.say ≡ Say.Bytes bytes → IsWalking j version fact es → IsBadBlob fact bytes
     → Concludes known (RestoreConcludes j.snapshot) (e ∷ es) (Outcome.Ended (End.BadObject (blob_thing fact.kind) fact.name))
 part_refused known j version fact e bytes es of said k bad =
-    let read = fact_read j.catalog es fact k.indexes k.waits.least in
-    let next = waits_next j.catalog.lookup version (Received es) k.root j.walk.levels.items j.walk.sent fact (emitted_in es) j.walk.onward j.walk.entries k.waits in
-    inr (part_concludes j.snapshot (e ∷ es) fact.kind fact.name (fact, read, (of, bytes, said, bad), refl, refl, version, k.root, k.found, next, k.once))
+    inr (part_concludes j.snapshot (e ∷ es) fact.kind fact.name (fact, blob_due j version fact es k, (of, bytes, said, bad), refl, refl))

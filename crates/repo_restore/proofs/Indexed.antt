@@ -13,10 +13,11 @@ use Rattle.repo_session.proofs.Cataloguing.{fact_stays, fact_before}
 use Rattle.repo_session.proofs.Deleting.{ListsNone, listed_stays, names_stay}
 use Rattle.repo_session.proofs.PageLemmas.{IsPageOf, GivesNoPage, page_or}
 use Rattle.repo_session.proofs.Spoken.{was_asked}
-use Rattle.repo_restore.specs.Restoring.{Wish, restore_task, IsForBlob, RestoreAllows, RestoreGives}
+use Rattle.repo_restore.specs.Restoring.{Wish, restore_task, RestoreAllows, RestoreGives}
+use Rattle.repo_session.specs.Ends.{AsksPart}
 
 -- a blob is asked for where all indexes were read
-pub range_indexed : (snapshot : Name) (es : Trace) (ask : Ask) → IsForBlob ask → IsPermitted (RestoreAllows snapshot) es ask → AreIndexed es
+pub range_indexed : (snapshot : Name) (es : Trace) (ask : Ask) → AsksPart ask → IsPermitted (RestoreAllows snapshot) es ask → AreIndexed es
 range_indexed snapshot es (Ask.Range pack offset len) blob allowed = (allowed tt).indexes
 range_indexed snapshot es Ask.Ticket blob allowed = absurd blob
 range_indexed snapshot es (Ask.Lock row) blob allowed = absurd blob

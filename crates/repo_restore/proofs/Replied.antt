@@ -22,7 +22,8 @@ use Rattle.repo_session.proofs.Descending.{received_grows, root_grows, node_at_g
 use Rattle.repo_session.proofs.Taking.{came_in, given_is, stands_after}
 use Rattle.repo_restore.specs.Laws.{RestoredIsWhatCame, GivenIsWhatCame, GivenIsABeginning, BeginsSnapshot, MayBeGiven, FileHolds, ClosedIsWhole}
 use Rattle.repo_restore.specs.RestoreStates.{FitsRestore, IsNewRestore, KnowsRestore, wish_of}
-use Rattle.repo_restore.specs.Restoring.{Wish, restore_rule, restore_task, HasLength, IsForBlob, IsRestored, MayGive, RestoreAllows, RestoreGives}
+use Rattle.repo_restore.specs.Restoring.{Wish, restore_rule, restore_task, HasLength, IsRestored, MayGive, RestoreAllows, RestoreGives}
+use Rattle.repo_session.specs.Ends.{AsksPart}
 use Rattle.repo_restore.specs.Walks.{ArePieces}
 use Rattle.repo_restore.specs.declared.restores.Restore.{Restore}
 use Rattle.repo_restore.specs.Beginnings.{IsBeginning}
@@ -40,7 +41,7 @@ Keeps w es = Obeys (restore_task w) (RestoreAllows w.snapshot) (RestoreGives w.s
 
 silent_end : (w : Wish) (e : Exchange) (es : Trace) (token : Token) → e.ask ≡ Ask.Unlock token → (e.emitted ≡ []) ⊎ RestoreGives w.snapshot es e → emitted_in es ≡ emitted_in (e ∷ es)
 silent_end w e es token q (inl none) = sym (ap (λ x. emitted_in es ++ x) none ∙ append-nil (emitted_in es))
-silent_end w e es token q (inr gives) = absurd (subst IsForBlob q gives.0)
+silent_end w e es token q (inr gives) = absurd (subst AsksPart q gives.0)
 
 given_by : (w : Wish) (ask : Ask) (e : Exchange) (es : Trace) → e.ask ≡ ask → Keeps w (e ∷ es) → emitted_in (without_unlock ask (e ∷ es) es) ≡ emitted_in (e ∷ es)
 given_by w (Ask.Unlock token) e es q o = silent_end w e es token q o.2
@@ -120,7 +121,7 @@ restored_is_what_came old new replies talk entries r ended =
     let instance = (who_in old).instance in
     let o = session_obeys (λ (j : Restore). j.snapshot) restore_rule IsNewRestore KnowsRestore (λ j fs. ⊥) new (trace_of talk) (stands_after instance FitsRestore (λ (s : Session Restore). next_in s) old new replies talk r.begins r.took) in (
       came_in instance FitsRestore (λ (s : Session Restore). next_in s) old new replies talk r.took,
-      subst (λ (w : Wish). IsRestored (before_unlock (trace_of talk)) w.snapshot entries) r.wish (o.concluded (Outcome.Complete entries) ended),
+      subst (λ (w : Wish). IsRestored (before_unlock (trace_of talk)) w.snapshot entries) r.wish (o.concluded (Outcome.Complete entries) ended).0,
       given_before (wish_of new) (trace_of talk) o.obeys ∙ sym (given_is talk),
     )
 

@@ -30,7 +30,7 @@ use Rattle.repo_session.specs.Soundness.{IsHeld, IsSound}
 use Rattle.repo_session.specs.Rebuilding.{rebuilt, Follow}
 use Rattle.repo_session.specs.Talks.{Talk, trace_of, given_in}
 use Rattle.repo_session.specs.Told.{AskedToPut}
-use Rattle.repo_session.specs.Blobs.{range_of}
+use Rattle.repo_session.specs.Blobs.{IsBadPart, range_of}
 use Rattle.repo_session.specs.Traces.{Trace, Exchanged, Lists, ReadFact}
 use Rattle.repo_session.proofs.Cataloguing.{fact_stays}
 use Rattle.repo_session.proofs.Causes.{part_good, range_length}
@@ -48,7 +48,7 @@ use Rattle.repo_restore.specs.Laws.{RestoreChangesNothing, ListChangesNothing, I
 use Rattle.repo_restore.specs.Listing.{list_task, ListAllows, ListGives, ListConcludes}
 use Rattle.repo_session.specs.Received.{Received}
 use Rattle.repo_session.specs.Trees.{HasRoot, Under, IsBroken, IsUnindexed}
-use Rattle.repo_restore.specs.Restoring.{Wish, restore_task, Sums, IsUneven, IsBrokenNext, IsBadPart, IsBadTree, RestoreAllows, RestoreGives, RestoreConcludes}
+use Rattle.repo_restore.specs.Restoring.{Wish, restore_task, Sums, IsUneven, IsBrokenNext, IsDueBlob, IsBadTree, RestoreAllows, RestoreGives, RestoreConcludes}
 use Rattle.repo_restore.proofs.Firsts.{first_is_of_all}
 use Rattle.repo_restore.proofs.Advancing.{only_reads}
 use Rattle.repo_session.proofs.KindReads.{kind_reads}
@@ -209,11 +209,11 @@ module _ (w : Wish) (from : Store) (sound : IsSound from.objects) (agree : Agree
       u.ungiven (held.fact, fact, held.of_kind, held.named ∙ b.named)
 
   -- here no part comes with other bytes than those of its blob
-  no_bad_part : (thing : Thing) (name : Name) (es : Trace) → es ≡ trace_of talk → IsBadPart es w.snapshot thing name → ⊥
+  no_bad_part : (thing : Thing) (name : Name) (es : Trace) → es ≡ trace_of talk → IsBadPart (IsDueBlob w.snapshot) es thing name → ⊥
   no_bad_part thing name [] is b = b
   no_bad_part thing name (e ∷ es) is b =
       let fact = b.0 in
-      let read = subst (λ fs. ReadFact fs fact) is (fact_stays e es fact b.1) in
+      let read = subst (λ fs. ReadFact fs fact) is (fact_stays e es fact b.1.0) in
       let came = b.2 in
       let asked = subst (λ fs. Exchanged fs (range_of fact) (Say.Bytes came.1)) is (inl (came.0, came.2)) in
       let pack = shares.ranged fact.place.pack fact.place.offset fact.place.length came.1 asked in
@@ -229,12 +229,12 @@ module _ (w : Wish) (from : Store) (sound : IsSound from.objects) (agree : Agree
   own_well (Outcome.Clean snapshots indexes packs blobs) own = absurd own
   own_well (Outcome.Faults faults) own = absurd own
   own_well Outcome.Upgraded own = absurd own
-  own_well (Outcome.Ended (End.BadObject Thing.Tree tree)) own = absurd (⊎_elim (λ b. no_bad_tree tree b) (λ b. no_bad_part Thing.Tree tree (trace_of talk) refl b) own)
+  own_well (Outcome.Ended (End.BadObject Thing.Tree tree)) own = absurd (⊎_elim (λ b. no_bad_tree tree b.0) (λ b. no_bad_part Thing.Tree tree (trace_of talk) refl b) own)
   own_well (Outcome.Ended (End.BadObject Thing.Content name)) own = absurd (no_bad_part Thing.Content name (trace_of talk) refl own)
   own_well (Outcome.Ended (End.BadObject Thing.Pack name)) own = absurd (no_bad_part Thing.Pack name (trace_of talk) refl own)
   own_well (Outcome.Ended (End.BadObject Thing.Index name)) own = absurd (no_bad_part Thing.Index name (trace_of talk) refl own)
   own_well (Outcome.Ended (End.BadObject Thing.Snapshot name)) own = absurd (no_bad_part Thing.Snapshot name (trace_of talk) refl own)
-  own_well (Outcome.Ended (End.Missing thing name)) own = absurd (no_unindexed thing name own.0)
+  own_well (Outcome.Ended (End.Missing thing name)) own = absurd (no_unindexed thing name own.0.0)
   own_well (Outcome.Ended End.Busy) own = absurd own
   own_well (Outcome.Ended End.Fenced) own = absurd own
   own_well (Outcome.Ended (End.Refused code)) own = absurd own

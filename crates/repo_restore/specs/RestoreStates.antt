@@ -10,14 +10,12 @@ use Rattle.repo_session.specs.declared.emissions.Emission.{Emission}
 use Rattle.repo_session.specs.declared.jobs.Step.{Step}
 use Rattle.repo_session.specs.Askers.{Holding, Asker}
 use Rattle.repo_session.specs.Catalogs.{Catalogs, IsAll}
-use Rattle.repo_session.specs.Jobs.{StepsOn, MayStep, task_under, GivesBy}
-use Rattle.repo_session.specs.Ends.{IsOfOtherVersion}
+use Rattle.repo_session.specs.Jobs.{HeedsReply, StepsOn, MayStep, task_under, GivesBy}
 use Rattle.repo_session.specs.Readings.{KnowsIndexes}
 use Rattle.repo_session.specs.Rebuilding.{rebuilt, AreWhole}
 use Rattle.repo_session.specs.Sessions.{FitsSession, who_in}
 use Rattle.repo_session.specs.declared.sessions.Session.{Session}
 use Rattle.repo_session.specs.Traces.{Trace, emitted_in, giving, Exchange}
-use Rattle.repo_session.specs.declared.versions.Versions.{Versions}
 use Rattle.repo_restore.specs.declared.restores.Restore.{Restore}
 use Rattle.repo_restore.specs.declared.restores.Stage.{Stage}
 use Rattle.repo_restore.specs.declared.walks.Turn.{Turn}
@@ -25,10 +23,9 @@ use Rattle.repo_restore.specs.declared.walks.Walk.{Walk}
 use Rattle.repo_session.specs.Received.{Received}
 use Rattle.repo_session.specs.Trees.{HasRoot, Under}
 use Rattle.repo_session.specs.declared.outcomes.End.{End}
-use Rattle.repo_session.specs.declared.outcomes.Outcome.{Outcome}
-use Rattle.repo_session.specs.Versions.{upto}
 use Rattle.repo_name.specs.declared.kinds.Thing.{Thing}
-use Rattle.repo_restore.specs.Restoring.{Wish, counted, HasGoneOn, IsAskedOnce, IsBrokenNext, restore_rule}
+use Rattle.repo_session.specs.Blobs.{HasCome}
+use Rattle.repo_restore.specs.Restoring.{Wish, counted, HasGoneOn, IsAskedOnce, IsBrokenNext, IsDueBlob, restore_rule}
 use Rattle.repo_restore.specs.Walking.{WaitsForBlob, WalkEnds}
 use Rattle.repo_name.specs.Naming as naming
 use Rattle.repo_name.specs.declared.tokens.Token.{Token}
@@ -87,9 +84,13 @@ RestoreRepliedTo holding old ask say step new = StepsOn (restore_rule old.snapsh
 abbrev pub RestoreReplied : Restore → Ask → Say → Step → Restore → Type 0
 RestoreReplied old ask say step new = (holding : Holding) → RestoreRepliedTo holding old ask say step new
 
--- a snapshot of a version that isn't among these ends it, for that
-abbrev pub HeedsSnapshot : Versions → Name → Say → Step → Type 0
-HeedsSnapshot versions n say step = IsOfOtherVersion (upto versions) (Ask.Get Kind.Snapshot n) say → step ≡ Step.Finish (Outcome.Ended End.Version)
+-- the step ends the restore by that reply, where a job ends at once on it, for who holds this lock
+abbrev pub RestoreHeedsFor : Holding → Restore → Ask → Say → Step → Restore → Type 0
+RestoreHeedsFor holding old ask say step new = HeedsReply (restore_rule old.snapshot) holding (KnowsRestore old) (giving ask say new.given.items) step
+
+-- whoever holds it
+abbrev pub RestoreHeeds : Restore → Ask → Say → Step → Restore → Type 0
+RestoreHeeds old ask say step new = (holding : Holding) → RestoreHeedsFor holding old ask say step new
 
 -- where nothing was taken, what was known is known
 abbrev pub RestoreStays : Restore → Restore → Type 0
@@ -110,7 +111,7 @@ abbrev pub TurnIsOnce : Walk → Trace → ℕ → Name → Turn → Type 0
 TurnIsOnce walk es version root (Turn.Ask fact) = IsAskedOnce es version root fact.kind fact.name × (walk.onward ≡ false → HasGoneOn es)
 TurnIsOnce walk es version root _ = ⊤
 
--- all indexes were read, and the walk goes on so
+-- all indexes were read, and the walk goes on so; and the blob that was asked for last came
 pub record IsTurnNext (j : Restore) (version : ℕ) (es : Trace) (turn : Turn) : Type 0 where
   pub root : Name
   pub found : HasRoot es j.snapshot version root
@@ -118,6 +119,7 @@ pub record IsTurnNext (j : Restore) (version : ℕ) (es : Trace) (turn : Turn) :
   pub all : IsAll j.catalog
   pub turns : RestoreTurnIs j.catalog.lookup j.walk version root es turn
   pub once : TurnIsOnce j.walk es version root turn
+  pub came : HasCome (IsDueBlob j.snapshot) es
 
 -- the restore stands where the trace leaves it
 abbrev pub FitsRestore : Session Restore → Trace → Type 0

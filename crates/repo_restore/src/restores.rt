@@ -8,8 +8,8 @@ ghost use Rattle.repo_wire.specs.declared.messages.Code.{Code};
 ghost use Rattle.repo_wire.specs.declared.messages.Say.{Say};
 ghost use Rattle.repo_session.specs.declared.emissions.Emission.{Emission};
 ghost use Rattle.repo_session.specs.Blobs.{IsBadBlob};
-ghost use Rattle.repo_session.specs.Jobs.{IsShort, IsShortStep};
-ghost use Rattle.repo_restore.specs.RestoreStates.{FitsRestore, wish_of, HeedsSnapshot, IsNewRestore, KnowsRestore, RestoreReplied, RestoreRepliedTo, RestoreStays, RestoreGoesOn, RestoreTakesBlob};
+ghost use Rattle.repo_session.specs.Jobs.{IsShortStep};
+ghost use Rattle.repo_restore.specs.RestoreStates.{FitsRestore, wish_of, IsNewRestore, KnowsRestore, RestoreReplied, RestoreRepliedTo, RestoreHeeds, RestoreHeedsFor, RestoreStays, RestoreGoesOn, RestoreTakesBlob};
 
 use crate::walks::{Turn, Walk};
 use repo_index::Fact;
@@ -104,7 +104,7 @@ impl Restore {
     fn take_snapshot(&mut self, holder: &Holder, say: &Say) -> Result<Step, AllocError>
         requires { self.old.stage ≡ Stage.Snapshot }
         ensures ok { IfOk result (λ step. (ask : Ask) → RestoreRepliedTo holder.now self.old ask say.now step self.new) }
-        ensures heeds { IfOk result (HeedsSnapshot holder.now.who.versions self.old.snapshot say.now) }
+        ensures heeds { IfOk result (λ step. (ask : Ask) → RestoreHeedsFor holder.now self.old ask say.now step self.new) }
         ensures err { OnErr result (self.new ≡ self.old) }
         ensures short { IfOk result IsShortStep }
         ensures calm { (code : Code) → say.now ≡ Say.Refused code → IsOk result }
@@ -142,6 +142,7 @@ impl Restore {
     ) -> Result<Step, AllocError>
         requires { self.old.stage ≡ Stage.Indexes tree version }
         ensures ok { IfOk result (λ step. RestoreReplied self.old ask.now say.now step self.new) }
+        ensures heeds { IfOk result (λ step. RestoreHeeds self.old ask.now say.now step self.new) }
         ensures err { OnErr result (RestoreStays self.old self.new) }
         ensures short { IfOk result IsShortStep }
         ensures calm { (code : Code) → say.now ≡ Say.Refused code → IsOk result }
@@ -193,6 +194,7 @@ impl Restore {
     fn take_range(&mut self, fact: Fact, version: u64, say: &Say) -> Result<Step, AllocError>
         requires { self.old.stage ≡ Stage.Walk fact version }
         ensures ok { IfOk result (λ step. (ask : Ask) → RestoreReplied self.old ask say.now step self.new) }
+        ensures heeds { IfOk result (λ step. (ask : Ask) → RestoreHeeds self.old ask say.now step self.new) }
         ensures err { OnErr result (RestoreStays self.old self.new) }
         ensures short { IfOk result IsShortStep }
         ensures calm { (code : Code) → say.now ≡ Say.Refused code → IsOk result }

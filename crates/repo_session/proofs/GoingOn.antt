@@ -7,7 +7,7 @@ use Rattle.repo_wire.specs.declared.messages.Code.{Code}
 use Rattle.repo_wire.specs.declared.messages.Say.{Say}
 use Rattle.repo_session.specs.declared.outcomes.End.{End}
 use Rattle.repo_session.specs.declared.outcomes.Outcome.{Outcome}
-use Rattle.repo_session.specs.Ends.{AsksFor, AsksPart, CausedBy, Concludes, IsBad, IsNoFaultsEnd, IsUnwelcome, MayConclude, MayPassOn, TellsFault}
+use Rattle.repo_session.specs.Ends.{AsksFor, AsksPart, CausedBy, Concludes, IsBad, IsNoFaultsEnd, IsUnwelcome, MayConclude, IsPassedOn, TellsFault}
 use Rattle.repo_session.specs.Order.{IsWork}
 use Rattle.repo_session.specs.Traces.{Exchange, Trace}
 
@@ -156,17 +156,17 @@ no_fault known e es End.FileTooLarge unwelcome untold caused = tt
 no_fault known e es End.Abandoned unwelcome untold caused = tt
 
 -- it ends on a reply that the job passed on
-pub passed_on : (notes : Bool) (known : ℕ) (Own : Trace → Outcome → Type 0) (e : Exchange) (es : Trace) (end : End) → MayPassOn notes e.ask e.say → CausedBy known e.ask e.say end
+pub passed_on : (notes : Bool) (known : ℕ) (Own : Trace → Outcome → Type 0) (e : Exchange) (es : Trace) (end : End) → IsPassedOn notes e.ask e.say → CausedBy known e.ask e.say end
     → MayConclude known notes Own (e ∷ es) (Outcome.Ended end)
 passed_on false known Own e es end may caused = inl (inl caused)
 passed_on true known Own e es end may caused = (inl (inl caused), no_fault known e es end may.0 may.1 caused)
 
 -- what is passed on isn't wanted
-pub unwelcome_of : (notes : Bool) (ask : Ask) (say : Say) → MayPassOn notes ask say → IsUnwelcome ask say
+pub unwelcome_of : (notes : Bool) (ask : Ask) (say : Say) → IsPassedOn notes ask say → IsUnwelcome ask say
 unwelcome_of false ask say may = may
 unwelcome_of true ask say may = may.0
 
 -- the word that the token is dead
-pub dead_passes : (notes : Bool) (ask : Ask) (say : Say) → say ≡ Say.Refused Code.Dead → IsUnwelcome ask say → MayPassOn notes ask say
+pub dead_passes : (notes : Bool) (ask : Ask) (say : Say) → say ≡ Say.Refused Code.Dead → IsUnwelcome ask say → IsPassedOn notes ask say
 dead_passes false ask say dead unwelcome = unwelcome
 dead_passes true ask say dead unwelcome = (unwelcome, λ tells. dead_tells ask (subst (TellsFault ask) dead tells))

@@ -18,15 +18,15 @@ use Rattle.repo_session.specs.declared.sessions.Head.{Head}
 use Rattle.repo_session.specs.Askers.{Asker, Holding, row_of}
 use Rattle.repo_session.specs.Clients.{IsSteady}
 use Rattle.repo_session.specs.Obedience.{beside_unlock}
-use Rattle.repo_session.specs.Ends.{AreUnderstood, CausedBy, IsCause, IsOfOtherVersion, IsUnderstood, IsUnwelcome, MayConclude, MayPassOn, NumbersAreSpent, before_unlock, without_unlock}
-use Rattle.repo_session.specs.Jobs.{Rule, task_under, known_under, MayAsk, MayBegin, MayTurn, MayGoOn}
+use Rattle.repo_session.specs.Ends.{AreHeeded, CausedBy, IsCause, IsOfOtherVersion, IsPassedOn, IsUnwelcome, MayConclude, MayFollow, NumbersAreSpent, before_unlock, without_unlock}
+use Rattle.repo_session.specs.Jobs.{Rule, task_under, known_under, HeedsOn, MayAsk, MayBegin, MayTurn, MayGoOn}
 use Rattle.repo_session.specs.Lines.{IsSentOnLine, IsFinished, IsClosed, IsIdle, or_spent}
 use Rattle.repo_session.specs.Obedience.{still_whole, holds_whole}
 use Rattle.repo_session.specs.Order.{Task, ticketed, locked, lock_row, opened, Holds, IsWork, IsUnlock, IsWorking, May, IsPermitted, Obeys}
 use Rattle.repo_session.specs.Sessions.{KnowsAt, SessionWaits, SessionWants, SessionRests, SessionStands, SessionAt, SessionEndsBy, Leaves, FollowsStep, took}
 use Rattle.repo_session.specs.Traces.{Each, Exchange, Trace, giving, silent}
 use Rattle.repo_session.proofs.Causes.{config_faultless}
-use Rattle.repo_session.proofs.Understanding.{all_understood, heeded, understood_before, understood_of, understood_spent, unwelcome_understood}
+use Rattle.repo_session.proofs.Heeding.{follow_before, heeded_before, heeded_of, heeded_spent, welcome_follows}
 use Rattle.repo_session.proofs.GoingOn.{may_conclude, own_end, passed_on, spent_end, unwelcome_of}
 use Rattle.repo_session.proofs.Holding.{holds_of, unwelcome_ticket, unwelcome_lock, work_no_unlock, working_more}
 
@@ -124,21 +124,21 @@ module _ (rule : Rule) (holding : Holding) (lock : Option LockRow) (Fresh : Type
 
   sent : (line now : Line) (ask : Ask) (es : Trace) → IsSentOnLine line ask now → line.instance ≡ holding.who.instance → line.sequence ≡ length es → Obeys (task_under rule holding.who) rule.allows rule.gives es
       → May (task_under rule holding.who) es ask → IsPermitted rule.allows es ask → KnowsAt rule holding lock Fresh Knows line.outcome ask es
-      → AreUnderstood (known_under rule holding.who) line.outcome (before_unlock es)
+      → AreHeeded (known_under rule holding.who) rule.notes line.outcome (before_unlock es)
       → ((o : Outcome) → or_spent line.outcome ≡ Some o → NumbersAreSpent es → MayConclude (known_under rule holding.who) rule.notes rule.concludes (before_unlock es) o) → SessionAt rule holding lock Fresh Knows Wants now es
-  sent line now ask es (inl p) i counted obeys may permitted knows understood ends = subst (λ l. SessionAt rule holding lock Fresh Knows Wants l es) (sym p) (record {
+  sent line now ask es (inl p) i counted obeys may permitted knows heeded ends = subst (λ l. SessionAt rule holding lock Fresh Knows Wants l es) (sym p) (record {
     instance = i;
     obeys = obeys;
-    understood = understood;
+    heeded = heeded;
     stands = record { next = record { instance = i; sequence = ap (λ n. n + 1) counted; may = may; permitted = permitted }; counted = ap (λ n. n + 1) counted; knows = knows };
   })
-  sent line now ask es (inr p) i counted obeys may permitted knows understood ends =
+  sent line now ask es (inr p) i counted obeys may permitted knows heeded ends =
       let o = spent_is line.outcome in
       let many : NumbersAreSpent es = subst (λ n. 2 ^ 64 - 1 ≤ n) counted p.0 in
       subst (λ l. SessionAt rule holding lock Fresh Knows Wants l es) (sym p.1) (record {
         instance = i;
         obeys = obeys;
-        understood = understood_spent (known_under rule holding.who) line.outcome (before_unlock es) understood;
+        heeded = heeded_spent (known_under rule holding.who) rule.notes line.outcome (before_unlock es) heeded;
         stands = inl (record { outcome = o.0; there = o.1; concluded = ends o.0 o.1 many; released = λ t h. many });
       })
 
@@ -149,9 +149,9 @@ module _ (rule : Rule) (holding : Holding) (lock : Option LockRow) (Fresh : Type
   -- where there is no outcome yet
   pub goes_on : (line now : Line) (ask : Ask) (es : Trace) → IsSentOnLine line ask now → line.instance ≡ holding.who.instance → line.sequence ≡ length es → line.outcome ≡ None → before_unlock es ≡ es
       → Obeys (task_under rule holding.who) rule.allows rule.gives es → May (task_under rule holding.who) es ask → IsPermitted rule.allows es ask → KnowsAt rule holding lock Fresh Knows line.outcome ask es
-      → Each (IsUnderstood (known_under rule holding.who)) es → SessionAt rule holding lock Fresh Knows Wants now es
+      → Each (MayFollow (known_under rule holding.who) rule.notes) es → SessionAt rule holding lock Fresh Knows Wants now es
   goes_on line now ask es s i counted none whole obeys may permitted knows all =
-      sent line now ask es s i counted obeys may permitted knows (understood_before (known_under rule holding.who) line.outcome es whole all) (λ o p many.
+      sent line now ask es s i counted obeys may permitted knows (heeded_before (known_under rule holding.who) rule.notes line.outcome es whole all) (λ o p many.
       let is : Outcome.Ended (End.Refused Code.Exhausted) ≡ o = cc (p, none) in
       subst (λ x. MayConclude (known_under rule holding.who) rule.notes rule.concludes (before_unlock es) x) is
       (may_conclude rule.notes (known_under rule holding.who) rule.concludes (before_unlock es) (Outcome.Ended (End.Refused Code.Exhausted))
@@ -159,32 +159,32 @@ module _ (rule : Rule) (holding : Holding) (lock : Option LockRow) (Fresh : Type
 
   -- the job wants input
   pub idles : (line now : Line) (es : Trace) → IsIdle line now → line.instance ≡ holding.who.instance → line.sequence ≡ length es → line.outcome ≡ None → Obeys (task_under rule holding.who) rule.allows rule.gives es
-      → IsWorking (task_under rule holding.who) holding.token es → rule.wanting es → Wants es → Each (IsUnderstood (known_under rule holding.who)) es → SessionAt rule holding lock Fresh Knows Wants now es
+      → IsWorking (task_under rule holding.who) holding.token es → rule.wanting es → Wants es → Each (MayFollow (known_under rule holding.who) rule.notes) es → SessionAt rule holding lock Fresh Knows Wants now es
   idles line now es idle i counted none obeys working may knows all = subst (λ l. SessionAt rule holding lock Fresh Knows Wants l es) (sym idle) (record {
     instance = i;
     obeys = obeys;
-    understood = understood_before (known_under rule holding.who) line.outcome es (holds_whole (task_under rule holding.who) holding.token es (holds_of (task_under rule holding.who) holding.token es working)) all;
+    heeded = heeded_before (known_under rule holding.who) rule.notes line.outcome es (holds_whole (task_under rule holding.who) holding.token es (holds_of (task_under rule holding.who) holding.token es working)) all;
     stands = inr (record { working = working; none = none; counted = counted; may = may; knows = knows });
   })
 
   -- the job ends, with an unlock
   pub finishes : (line now : Line) (o : Outcome) (es : Trace) → IsFinished line o holding.token now → line.instance ≡ holding.who.instance → line.sequence ≡ length es
       → Obeys (task_under rule holding.who) rule.allows rule.gives es → Holds (task_under rule holding.who) holding.token es → MayConclude (known_under rule holding.who) rule.notes rule.concludes es o
-      → AreUnderstood (known_under rule holding.who) (Some o) es → SessionAt rule holding lock Fresh Knows Wants now es
-  finishes line now o es s i counted obeys held concluded understood =
+      → AreHeeded (known_under rule holding.who) rule.notes (Some o) es → SessionAt rule holding lock Fresh Knows Wants now es
+  finishes line now o es s i counted obeys held concluded heeded =
       let ended : Line = record { instance = line.instance; sequence = line.sequence; next = line.next; outcome = Some o } in
       let whole = holds_whole (task_under rule holding.who) holding.token es held in
-      sent ended now (Ask.Unlock holding.token) es s i counted obeys held (λ w. absurd w) (o, refl, concluded) (subst (λ fs. AreUnderstood (known_under rule holding.who) (Some o) fs) (sym whole) understood) (λ x p many.
+      sent ended now (Ask.Unlock holding.token) es s i counted obeys held (λ w. absurd w) (o, refl, concluded) (subst (λ fs. AreHeeded (known_under rule holding.who) rule.notes (Some o) fs) (sym whole) heeded) (λ x p many.
       let is : o ≡ x = cc in subst (λ y. MayConclude (known_under rule holding.who) rule.notes rule.concludes (before_unlock es) y) is (subst (λ fs. MayConclude (known_under rule holding.who) rule.notes rule.concludes fs o) (sym whole) concluded))
 
   -- the job ends without one
   pub closes : (line now : Line) (o : Outcome) (es : Trace) → IsClosed line o now → line.instance ≡ holding.who.instance → Obeys (task_under rule holding.who) rule.allows rule.gives es
       → MayConclude (known_under rule holding.who) rule.notes rule.concludes (before_unlock es) o → ((t : Token) → Holds (task_under rule holding.who) t es → NumbersAreSpent es)
-      → AreUnderstood (known_under rule holding.who) (Some o) (before_unlock es) → SessionAt rule holding lock Fresh Knows Wants now es
-  closes line now o es c i obeys concluded released understood = subst (λ l. SessionAt rule holding lock Fresh Knows Wants l es) (sym c) (record {
+      → AreHeeded (known_under rule holding.who) rule.notes (Some o) (before_unlock es) → SessionAt rule holding lock Fresh Knows Wants now es
+  closes line now o es c i obeys concluded released heeded = subst (λ l. SessionAt rule holding lock Fresh Knows Wants l es) (sym c) (record {
     instance = i;
     obeys = obeys;
-    understood = understood;
+    heeded = heeded;
     stands = inl (record { outcome = o; there = refl; concluded = concluded; released = released });
   })
 
@@ -192,15 +192,15 @@ module _ (rule : Rule) (holding : Holding) (lock : Option LockRow) (Fresh : Type
   pub leaves : (old new : Head) (end : End) (e : Exchange) (es : Trace) → Leaves old end new → old.holder ≡ holding → old.line.instance ≡ holding.who.instance → old.line.sequence ≡ length es + 1
       → Obeys (task_under rule holding.who) rule.allows rule.gives (e ∷ es) → ((t : Token) → e.ask ≢ Ask.Unlock t) → CausedBy (known_under rule holding.who) e.ask e.say end → MayConclude (known_under rule holding.who) rule.notes rule.concludes (e ∷ es) (Outcome.Ended end)
       → (e.say ≡ Say.Refused Code.Dead → end ≡ End.Fenced) → (e.say ≢ Say.Refused Code.Dead → Holds (task_under rule holding.who) holding.token (e ∷ es))
-      → AreUnderstood (known_under rule holding.who) (Some (Outcome.Ended end)) (e ∷ es) → SessionAt rule holding lock Fresh Knows Wants new.line (e ∷ es)
-  leaves old new end e es left is i counted obeys plain caused goes dead held understood = elim (is_fenced end) [
+      → AreHeeded (known_under rule holding.who) rule.notes (Some (Outcome.Ended end)) (e ∷ es) → SessionAt rule holding lock Fresh Knows Wants new.line (e ∷ es)
+  leaves old new end e es left is i counted obeys plain caused goes dead held heeded = elim (is_fenced end) [
     | inl fenced ↦
         let say : e.say ≡ Say.Refused Code.Dead = subst (λ x. CausedBy (known_under rule holding.who) e.ask e.say x) fenced caused in
         closes old.line new.line (Outcome.Ended end) (e ∷ es) (left.fenced fenced) i obeys (subst (λ fs. MayConclude (known_under rule holding.who) rule.notes rule.concludes fs (Outcome.Ended end)) (sym (still_whole e es plain)) goes)
-        (λ t h. absurd (dead_free (task_under rule holding.who) e es t say h)) (subst (λ fs. AreUnderstood (known_under rule holding.who) (Some (Outcome.Ended end)) fs) (sym (still_whole e es plain)) understood)
+        (λ t h. absurd (dead_free (task_under rule holding.who) e es t say h)) (subst (λ fs. AreHeeded (known_under rule holding.who) rule.notes (Some (Outcome.Ended end)) fs) (sym (still_whole e es plain)) heeded)
     | inr other ↦
         let n : old.line.sequence ≡ length (e ∷ es) = omega (arith, counted) in
-        finishes old.line new.line (Outcome.Ended end) (e ∷ es) (subst (λ (h : Holding). IsFinished old.line (Outcome.Ended end) h.token new.line) is (left.other other)) i n obeys (held (λ x. other (dead x))) goes understood
+        finishes old.line new.line (Outcome.Ended end) (e ∷ es) (subst (λ (h : Holding). IsFinished old.line (Outcome.Ended end) h.token new.line) is (left.other other)) i n obeys (held (λ x. other (dead x))) goes heeded
   ]
 
 -- ---- the replies to the ticket and the lock
@@ -231,9 +231,18 @@ module _ (rule : Rule) (holding : Holding) (lock : Option LockRow) (Fresh : Type
   may : (a : Ask) → r.ask ≡ a → May (task_under rule holding.who) es a
   may a q = subst (λ x. May (task_under rule holding.who) es x) q waits.next.may
 
-  -- all that came so far was understood, where there is no outcome
-  all_before : line.outcome ≡ None → Each (IsUnderstood (known_under rule holding.who)) es
-  all_before none = all_understood (known_under rule holding.who) line.outcome es none at.understood
+  -- it went on by all that came so far, where there is no outcome
+  all_before : line.outcome ≡ None → before_unlock es ≡ es → Each (MayFollow (known_under rule holding.who) rule.notes) es
+  all_before none whole = follow_before (known_under rule holding.who) rule.notes line.outcome es none whole at.heeded
+
+  none_before : es ≡ [] → before_unlock es ≡ es
+  none_before is = subst (λ fs. before_unlock fs ≡ fs) (sym is) refl
+
+  ticket_before : (token : Token) → es ≡ ticketed token → before_unlock es ≡ es
+  ticket_before token is = subst (λ fs. before_unlock fs ≡ fs) (sym is) refl
+
+  lock_before : es ≡ locked (task_under rule holding.who) holding.token → before_unlock es ≡ es
+  lock_before is = subst (λ fs. before_unlock fs ≡ fs) (sym is) refl
 
   module _ (say : Say) where
     abbrev pub e : Exchange
@@ -251,26 +260,29 @@ module _ (rule : Rule) (holding : Holding) (lock : Option LockRow) (Fresh : Type
         let all : e ∷ es ≡ ticketed t = ap (λ a. silent a say ∷ es) q ∙ ap (λ x. silent Ask.Ticket x ∷ es) is
         ∙ ap (λ fs. silent Ask.Ticket (Say.Token t) ∷ fs) none in
         goes_on rule (record { who = holding.who; token = t }) lock' Fresh Knows Wants line now (Ask.Lock (lock_row (task_under rule holding.who) t)) (e ∷ es) s at.instance (more line.sequence e es waits.counted) k.1
-        (still_whole e es (plain_by r.ask Ask.Ticket q ticket_plain)) obeys_more (t, all, refl) (λ w. absurd w) (k.0, k.1, all)
-        (subst (λ a. ¬ IsOfOtherVersion (known_under rule holding.who) a say) (sym q) (λ o. o), all_before k.1)
+        (still_whole e es (plain_by r.ask Ask.Ticket q ticket_plain)) obeys_more (t, all, refl) (λ w. absurd w) (k.0, k.1, all) (
+          subst (λ a. MayFollow (known_under rule holding.who) rule.notes (silent a say)) (sym q) (subst (λ s. MayFollow (known_under rule holding.who) rule.notes (silent Ask.Ticket s)) (sym is)
+              (welcome_follows (known_under rule holding.who) rule.notes (silent Ask.Ticket (Say.Token t)) (λ o. o) (λ w. w tt))),
+          all_before k.1 (none_before none),
+        )
 
     -- it ends on the reply, where no lock is held
     closed_now : (holding' : Holding) (lock' : Option LockRow) (end : End) (now : Line) → holding'.who ≡ holding.who → IsClosed line (Outcome.Ended end) now → ((t : Token) → r.ask ≢ Ask.Unlock t)
-        → CausedBy (known_under rule holding.who) r.ask say end → ¬ IsWork r.ask → ((t : Token) → Holds (task_under rule holding.who) t (e ∷ es) → ⊥) → ¬ IsOfOtherVersion (known_under rule holding.who) r.ask say → line.outcome ≡ None
+        → CausedBy (known_under rule holding.who) r.ask say end → ¬ IsWork r.ask → ((t : Token) → Holds (task_under rule holding.who) t (e ∷ es) → ⊥) → line.outcome ≡ None → before_unlock es ≡ es
         → SessionAt rule holding' lock' Fresh Knows Wants now (e ∷ es)
-    closed_now holding' lock' end now who c plain caused own free understood none =
+    closed_now holding' lock' end now who c plain caused own free none whole =
         subst (λ (w : Asker). SessionAt rule (record { who = w; token = holding'.token }) lock' Fresh Knows Wants now (e ∷ es)) (sym who)
         (closes rule (record { who = holding.who; token = holding'.token }) lock' Fresh Knows Wants line now (Outcome.Ended end) (e ∷ es) c at.instance obeys_more
         (subst (λ fs. MayConclude (known_under rule holding.who) rule.notes rule.concludes fs (Outcome.Ended end)) (sym (still_whole e es plain))
         (may_conclude rule.notes (known_under rule holding.who) rule.concludes (e ∷ es) (Outcome.Ended end) (inl (inl caused)) (own_end (known_under rule holding.who) e es end own caused))) (λ t h. absurd (free t h))
-        (subst (λ fs. AreUnderstood (known_under rule holding.who) (Some (Outcome.Ended end)) fs) (sym (still_whole e es plain)) (inr understood, all_before none)))
+        (subst (λ fs. AreHeeded (known_under rule holding.who) rule.notes (Some (Outcome.Ended end)) fs) (sym (still_whole e es plain)) ((λ ends. (Outcome.Ended end, refl, (end, refl, caused))), all_before none whole)))
 
     ticket_closed : (holding' : Holding) (lock' : Option LockRow) (end : End) (now : Line) → holding'.who ≡ holding.who → r.ask ≡ Ask.Ticket → ((t : Token) → say ≢ Say.Token t) → SessionEndsBy r.ask say end
         → IsClosed line (Outcome.Ended end) now → SessionAt rule holding' lock' Fresh Knows Wants now (e ∷ es)
     ticket_closed holding' lock' end now who q other ends c =
         closed_now holding' lock' end now who c (plain_by r.ask Ask.Ticket q ticket_plain) (ends.1 (subst (λ a. IsUnwelcome a say) (sym q) (unwelcome_ticket say other)) (known_under rule holding.who))
         (subst (λ a. ¬ IsWork a) (sym q) (λ w. w)) (λ t h. unasked_free (task_under rule holding.who) e es t (may Ask.Ticket q) h)
-        (subst (λ a. ¬ IsOfOtherVersion (known_under rule holding.who) a say) (sym q) (λ o. o)) (known Ask.Ticket q).1
+        (known Ask.Ticket q).1 (none_before (may Ask.Ticket q))
 
     -- the reply to the lock
     locked_now : (row : LockRow) (now : Line) → r.ask ≡ Ask.Lock row → say ≡ Say.Done → IsSentOnLine line Ask.Config now → SessionAt rule holding lock Fresh Knows Wants now (e ∷ es)
@@ -282,7 +294,11 @@ module _ (rule : Rule) (holding : Holding) (lock : Option LockRow) (Fresh : Type
         ∙ ap (λ x. silent (Ask.Lock (lock_row (task_under rule holding.who) holding.token)) x ∷ es) is
         ∙ ap (λ fs. silent (Ask.Lock (lock_row (task_under rule holding.who) holding.token)) Say.Done ∷ fs) k.2 in
         goes_on rule holding lock Fresh Knows Wants line now Ask.Config (e ∷ es) s at.instance (more line.sequence e es waits.counted) k.1 (still_whole e es (plain_by r.ask (Ask.Lock row) q (lock_plain row))) obeys_more
-        (holding.token, all) (λ w. absurd w) (k.0, k.1, all) (subst (λ a. ¬ IsOfOtherVersion (known_under rule holding.who) a say) (sym q) (λ o. o), all_before k.1)
+        (holding.token, all) (λ w. absurd w) (k.0, k.1, all) (
+          subst (λ a. MayFollow (known_under rule holding.who) rule.notes (silent a say)) (sym q) (subst (λ s. MayFollow (known_under rule holding.who) rule.notes (silent (Ask.Lock row) s)) (sym is)
+              (welcome_follows (known_under rule holding.who) rule.notes (silent (Ask.Lock row) Say.Done) (λ o. o) (λ w. w tt))),
+          all_before k.1 (ticket_before holding.token k.2),
+        )
       where
         token_in : Say → Token
         token_in (Say.Token t) = t
@@ -301,7 +317,7 @@ module _ (rule : Rule) (holding : Holding) (lock : Option LockRow) (Fresh : Type
         let k = known (Ask.Lock row) q in
         closed_now holding lock end now refl c (plain_by r.ask (Ask.Lock row) q (lock_plain row)) (ends.1 (subst (λ a. IsUnwelcome a say) (sym q) (unwelcome_lock row say other)) (known_under rule holding.who))
         (subst (λ a. ¬ IsWork a) (sym q) (λ w. w)) (λ t h. ungranted_free (task_under rule holding.who) e es holding.token t other k.2 h)
-        (subst (λ a. ¬ IsOfOtherVersion (known_under rule holding.who) a say) (sym q) (λ o. o)) k.1
+        k.1 (ticket_before holding.token k.2)
 
     -- ---- the reply to the config
 
@@ -310,10 +326,11 @@ module _ (rule : Rule) (holding : Holding) (lock : Option LockRow) (Fresh : Type
         let k = known Ask.Config q in
         ap (λ a. silent a say ∷ es) q ∙ ap (λ s. silent Ask.Config s ∷ es) is ∙ ap (λ fs. silent Ask.Config (Say.Bytes text) ∷ fs) k.2
 
-    config_understood : (text : List ℕ) (config : Config) → r.ask ≡ Ask.Config → say ≡ Say.Bytes text → IsConfigText text config → config.version ≤ known_under rule holding.who → ¬ IsOfOtherVersion (known_under rule holding.who) r.ask say
-    config_understood text config q is reads known_to =
+    config_follows : (text : List ℕ) (config : Config) → r.ask ≡ Ask.Config → say ≡ Say.Bytes text → IsConfigText text config → config.version ≤ known_under rule holding.who → MayFollow (known_under rule holding.who) rule.notes e
+    config_follows text config q is reads known_to =
         let none : ¬ IsOfOtherVersion (known_under rule holding.who) Ask.Config (Say.Bytes text) = λ other. (let w = config_faultless (known_under rule holding.who) text config TextError.Version reads known_to other in absurd (cc)) in
-        subst (λ a. ¬ IsOfOtherVersion (known_under rule holding.who) a say) (sym q) (subst (λ s. ¬ IsOfOtherVersion (known_under rule holding.who) Ask.Config s) (sym is) none)
+        subst (λ a. MayFollow (known_under rule holding.who) rule.notes (silent a say)) (sym q) (subst (λ s. MayFollow (known_under rule holding.who) rule.notes (silent Ask.Config s)) (sym is)
+        (welcome_follows (known_under rule holding.who) rule.notes (silent Ask.Config (Say.Bytes text)) none (λ w. w tt)))
 
     -- it is read, of a version that is known, and the job asks for more
     begun : (Fresh' : Type 0) (Knows' : Ask → Trace → Type 0) (Wants' : Trace → Type 0) (text : List ℕ) (config : Config) (ask : Ask) (now : Line) → r.ask ≡ Ask.Config → say ≡ Say.Bytes text → IsConfigText text config
@@ -326,7 +343,7 @@ module _ (rule : Rule) (holding : Holding) (lock : Option LockRow) (Fresh : Type
         let working : IsWorking (task_under rule holding.who) holding.token (e ∷ es) =
         (config, record { later = []; text = text; since = all; reads = reads; known = known_to; held = record { unfenced = tt; unended = tt } }) in
         goes_on rule holding lock Fresh' Knows' Wants' line now ask (e ∷ es) s at.instance (more line.sequence e es waits.counted) k.1 (still_whole e es (plain_by r.ask Ask.Config q config_plain)) obeys_more m.may (λ w. m.allowed)
-        (at_work rule holding lock Fresh' Knows' Wants' line.outcome ask (e ∷ es) m.work (working, k.1, m.knows)) (config_understood text config q is reads known_to, all_before k.1)
+        (at_work rule holding lock Fresh' Knows' Wants' line.outcome ask (e ∷ es) m.work (working, k.1, m.knows)) (config_follows text config q is reads known_to, all_before k.1 (lock_before k.2))
 
     -- or it ends at once
     begun_over : (Fresh' : Type 0) (Knows' : Ask → Trace → Type 0) (Wants' : Trace → Type 0) (text : List ℕ) (config : Config) (outcome : Outcome) (now : Line) → r.ask ≡ Ask.Config → say ≡ Say.Bytes text → IsConfigText text config
@@ -337,7 +354,7 @@ module _ (rule : Rule) (holding : Holding) (lock : Option LockRow) (Fresh : Type
         finishes rule holding lock Fresh' Knows' Wants' line now outcome (e ∷ es) s at.instance (more line.sequence e es waits.counted) obeys_more
         (record { later = silent Ask.Config (Say.Bytes text) ∷ []; since = all; held = record { unfenced = ((λ x. absurd (cc)), tt); unended = ((λ t x. absurd (cc)), tt) } })
         (subst (λ fs. MayConclude (known_under rule holding.who) rule.notes rule.concludes fs outcome) (sym all) concluded)
-        (understood_of (known_under rule holding.who) (Some outcome) (e ∷ es) (config_understood text config q is reads known_to, all_before (known Ask.Config q).1))
+        (heeded_of (known_under rule holding.who) rule.notes (Some outcome) (e ∷ es) (config_follows text config q is reads known_to, all_before (known Ask.Config q).1 (lock_before (known Ask.Config q).2)))
 
     -- the job begins
     pub begins : (Fresh' : Type 0) (Knows' : Ask → Trace → Type 0) (Wants' : Trace → Type 0) (text : List ℕ) (config : Config) (step : Step) (end : End) (old new : Head) → old.line ≡ line → old.holder ≡ holding → r.ask ≡ Ask.Config
@@ -353,13 +370,13 @@ module _ (rule : Rule) (holding : Holding) (lock : Option LockRow) (Fresh : Type
 
     -- the session ends on it
     pub config_left : (Fresh' : Type 0) (Knows' : Ask → Trace → Type 0) (Wants' : Trace → Type 0) (end : End) (old new : Head) → old.line ≡ line → old.holder ≡ holding → r.ask ≡ Ask.Config → CausedBy (known_under rule holding.who) r.ask say end
-        → (say ≡ Say.Refused Code.Dead → end ≡ End.Fenced) → (IsOfOtherVersion (known_under rule holding.who) r.ask say → end ≡ End.Version) → Leaves old end new → SessionAt rule holding lock Fresh' Knows' Wants' new.line (e ∷ es)
-    config_left Fresh' Knows' Wants' end old new same is q caused dead heeds left =
+        → (say ≡ Say.Refused Code.Dead → end ≡ End.Fenced) → Leaves old end new → SessionAt rule holding lock Fresh' Knows' Wants' new.line (e ∷ es)
+    config_left Fresh' Knows' Wants' end old new same is q caused dead left =
         let k = known Ask.Config q in
         let plain = plain_by r.ask Ask.Config q config_plain in
         leaves rule holding lock Fresh' Knows' Wants' old new end e es left is (ap (λ (l : Line). l.instance) same ∙ at.instance) (ap (λ (l : Line). l.sequence) same ∙ waits.counted) obeys_more plain caused
         (may_conclude rule.notes (known_under rule holding.who) rule.concludes (e ∷ es) (Outcome.Ended end) (inl (inl caused)) (own_end (known_under rule holding.who) e es end (subst (λ a. ¬ IsWork a) (sym q) (λ w. w)) caused)) dead (λ live. record { later = e ∷ []; since = ap (λ fs. e ∷ fs) k.2; held = record { unfenced = (live, tt); unended = (plain, tt) } })
-        (heeded (known_under rule holding.who) (Outcome.Ended end) e es (λ other. ap Outcome.Ended (heeds other)) (all_before k.1))
+        ((λ ends. (Outcome.Ended end, refl, (end, refl, caused))), all_before k.1 (lock_before k.2))
 
   -- what a ticket's reply makes of the session
   pub ticket_taken : (say : Say) (holding' : Holding) (lock' : Option LockRow) (end : End) (now : Line) → holding'.who ≡ holding.who → r.ask ≡ Ask.Ticket → SessionEndsBy r.ask say end
@@ -403,8 +420,11 @@ module _ (rule : Rule) (holding : Holding) (lock : Option LockRow) (Fresh : Type
     pub working_on : (f : Exchange) → f.ask ≡ r.ask → f.say ≢ Say.Refused Code.Dead → IsWorking (task_under rule holding.who) holding.token (f ∷ es)
     working_on f is live = working_more (task_under rule holding.who) holding.token f es working.0 live (plain_by f.ask r.ask is (work_no_unlock r.ask work))
 
+    so_far : Each (MayFollow (known_under rule holding.who) rule.notes) es
+    so_far = all_before working.1 (holds_whole (task_under rule holding.who) holding.token es (holds_of (task_under rule holding.who) holding.token es working.0))
+
     -- the session ends on the reply
-    pub work_left : (say : Say) (Fresh' : Type 0) (Knows' : Ask → Trace → Type 0) (Wants' : Trace → Type 0) (end : End) (old new : Head) → old.line ≡ line → old.holder ≡ holding → MayPassOn rule.notes r.ask say
+    pub work_left : (say : Say) (Fresh' : Type 0) (Knows' : Ask → Trace → Type 0) (Wants' : Trace → Type 0) (end : End) (old new : Head) → old.line ≡ line → old.holder ≡ holding → IsPassedOn rule.notes r.ask say
         → SessionEndsBy r.ask say end → Leaves old end new → SessionAt rule holding lock Fresh' Knows' Wants' new.line (silent r.ask say ∷ es)
     work_left say Fresh' Knows' Wants' end old new same is may ends left =
         let f : Exchange = silent r.ask say in
@@ -412,27 +432,28 @@ module _ (rule : Rule) (holding : Holding) (lock : Option LockRow) (Fresh : Type
         let caused = ends.1 unwelcome (known_under rule holding.who) in
         leaves rule holding lock Fresh' Knows' Wants' old new end f es left is (ap (λ (l : Line). l.instance) same ∙ at.instance) (ap (λ (l : Line). l.sequence) same ∙ waits.counted) (obeys_more say) (work_no_unlock r.ask work)
         caused (passed_on rule.notes (known_under rule holding.who) rule.concludes f es end may caused) ends.0 (λ live. holds_of (task_under rule holding.who) holding.token (f ∷ es) (working_on f refl live))
-        (inr (unwelcome_understood (known_under rule holding.who) r.ask say unwelcome), all_before working.1)
+        ((λ e. (Outcome.Ended end, refl, (end, refl, caused))), so_far)
 
     -- the job goes on, or ends
     pub stepped : (Fresh' : Type 0) (Knows' : Ask → Trace → Type 0) (Wants' : Trace → Type 0) (say : Say) (emitted : List Emission) (step : Step) (end : End) (old new : Head) → old.line ≡ line → old.holder ≡ holding → say ≢ Say.Refused Code.Dead
-        → MayTurn rule holding.who Knows' Wants' es (giving r.ask say emitted) step → (IsOfOtherVersion (known_under rule holding.who) r.ask say → step ≡ Step.Finish (Outcome.Ended End.Version)) → SessionEndsBy r.ask say end
+        → MayTurn rule holding.who Knows' Wants' es (giving r.ask say emitted) step
+        → HeedsOn (known_under rule holding.who) rule.notes (giving r.ask say emitted) step → SessionEndsBy r.ask say end
         → FollowsStep old step end new
         → SessionAt rule holding lock Fresh' Knows' Wants' new.line (giving r.ask say (cond (took step) emitted []) ∷ es)
     stepped Fresh' Knows' Wants' say emitted (Step.Ask ask) end old new same is live m heeds ends s =
         let f : Exchange = giving r.ask say emitted in
         goes_on rule holding lock Fresh' Knows' Wants' line new.line ask (f ∷ es) (subst (λ l. IsSentOnLine l ask new.line) same s) at.instance (more line.sequence f es waits.counted) working.1 (still_whole f es (work_no_unlock r.ask work))
         (waits.next.may, waits.next.permitted, m.0, at.obeys) m.1.may (λ w. m.1.allowed) (at_work rule holding lock Fresh' Knows' Wants' line.outcome ask (f ∷ es) m.1.work (working_on f refl live, working.1, m.1.knows))
-        ((λ other. let w = heeds other in absurd (cc)), all_before working.1)
+        (heeds, so_far)
     stepped Fresh' Knows' Wants' say emitted (Step.Finish o) end old new same is live m heeds ends s =
         let f : Exchange = giving r.ask say emitted in
         finishes rule holding lock Fresh' Knows' Wants' line new.line o (f ∷ es) (subst (λ (h : Holding). IsFinished line o h.token new.line) is (subst (λ l. IsFinished l o old.holder.token new.line) same s)) at.instance
         (more line.sequence f es waits.counted) (waits.next.may, waits.next.permitted, m.0, at.obeys) (holds_of (task_under rule holding.who) holding.token (f ∷ es) (working_on f refl live)) m.1
-        (heeded (known_under rule holding.who) o f es (λ other. let w = heeds other in cc) (all_before working.1))
+        ((λ ends. (o, refl, heeds ends)), so_far)
     stepped Fresh' Knows' Wants' say emitted Step.Want end old new same is live m heeds ends s =
         let f : Exchange = giving r.ask say emitted in
         idles rule holding lock Fresh' Knows' Wants' line new.line (f ∷ es) (subst (λ l. IsIdle l new.line) same s) at.instance (more line.sequence f es waits.counted) working.1
-        (waits.next.may, waits.next.permitted, m.0, at.obeys) (working_on f refl live) m.1 m.2 ((λ other. let w = heeds other in absurd (cc)), all_before working.1)
+        (waits.next.may, waits.next.permitted, m.0, at.obeys) (working_on f refl live) m.1 m.2 (heeds, so_far)
     stepped Fresh' Knows' Wants' say emitted Step.Away end old new same is live m heeds ends s = work_left say Fresh' Knows' Wants' end old new same is m ends s
 
     -- nothing was taken, and what the job knew it knows
@@ -440,7 +461,7 @@ module _ (rule : Rule) (holding : Holding) (lock : Option LockRow) (Fresh : Type
     knows_still Fresh' Knows' Wants' still = record {
       instance = at.instance;
       obeys = at.obeys;
-      understood = at.understood;
+      heeded = at.heeded;
       stands = subst (λ n. SessionStands rule holding lock Fresh' Knows' Wants' line n es) (sym next) (record {
         next = waits.next;
         counted = waits.counted;
@@ -458,7 +479,7 @@ module _ (rule : Rule) (holding : Holding) (lock : Option LockRow) (Fresh : Type
       record {
         instance = at.instance;
         obeys = obeys_more say;
-        understood = subst (λ fs. AreUnderstood (known_under rule holding.who) line.outcome fs) (holds_whole (task_under rule holding.who) u es (may (Ask.Unlock u) q) ∙ sym before) at.understood;
+        heeded = subst (λ fs. AreHeeded (known_under rule holding.who) rule.notes line.outcome fs) (holds_whole (task_under rule holding.who) u es (may (Ask.Unlock u) q) ∙ sym before) at.heeded;
         stands = inl (record {
           outcome = k.0;
           there = k.1;
@@ -480,14 +501,14 @@ wants_of rule holding lock Fresh Knows Wants line es n o s = by (subst (λ m. Se
 
 -- the job goes on from an item: at the trace with it, of the same length
 pub input_taken : (rule : Rule) (holding : Holding) (lock : Option LockRow) (Fresh : Type 0) (Knows : Ask → Trace → Type 0) (Wants : Trace → Type 0) (step : Step) (end : End) (old new : Head) (es : Trace) → old.holder ≡ holding
-    → old.line.instance ≡ holding.who.instance → old.line.outcome ≡ None → old.line.sequence ≡ length es → Obeys (task_under rule holding.who) rule.allows rule.gives es → Each (IsUnderstood (known_under rule holding.who)) es
+    → old.line.instance ≡ holding.who.instance → old.line.outcome ≡ None → old.line.sequence ≡ length es → Obeys (task_under rule holding.who) rule.allows rule.gives es → Each (MayFollow (known_under rule holding.who) rule.notes) es
     → IsWorking (task_under rule holding.who) holding.token es
     → MayGoOn rule holding.who Knows Wants es step → FollowsStep old step end new → SessionAt rule holding lock Fresh Knows Wants new.line es
 input_taken rule holding lock Fresh Knows Wants (Step.Ask ask) end old new es is i none counted obeys all held m s =
     goes_on rule holding lock Fresh Knows Wants old.line new.line ask es s i counted none (holds_whole (task_under rule holding.who) holding.token es (holds_of (task_under rule holding.who) holding.token es held)) obeys m.may (λ w. m.allowed)
     (at_work rule holding lock Fresh Knows Wants old.line.outcome ask es m.work (held, none, m.knows)) all
 input_taken rule holding lock Fresh Knows Wants (Step.Finish o) end old new es is i none counted obeys all held m s =
-    finishes rule holding lock Fresh Knows Wants old.line new.line o es (subst (λ (h : Holding). IsFinished old.line o h.token new.line) is s) i counted obeys (holds_of (task_under rule holding.who) holding.token es held) m (understood_of (known_under rule holding.who) (Some o) es all)
+    finishes rule holding lock Fresh Knows Wants old.line new.line o es (subst (λ (h : Holding). IsFinished old.line o h.token new.line) is s) i counted obeys (holds_of (task_under rule holding.who) holding.token es held) m (heeded_of (known_under rule holding.who) rule.notes (Some o) es all)
 input_taken rule holding lock Fresh Knows Wants Step.Want end old new es is i none counted obeys all held m s = idles rule holding lock Fresh Knows Wants old.line new.line es s i counted none obeys held m.0 m.1 all
 input_taken rule holding lock Fresh Knows Wants Step.Away end old new es is i none counted obeys all held m s = absurd m
 

@@ -7,7 +7,7 @@ use Rattle.repo_wire.specs.declared.messages.Request.{Request}
 use Rattle.repo_wire.specs.declared.messages.Say.{Say}
 use Rattle.repo_session.specs.declared.emissions.Emission.{Emission}
 use Rattle.repo_session.specs.declared.outcomes.Outcome.{Outcome}
-use Rattle.repo_session.specs.Ends.{AreUnderstood, MayConclude, NumbersAreSpent, before_unlock}
+use Rattle.repo_session.specs.Ends.{AreHeeded, MayConclude, NumbersAreSpent, before_unlock}
 use Rattle.repo_session.specs.Askers.{Asker}
 use Rattle.repo_session.specs.Jobs.{Rule, task_under}
 use Rattle.repo_session.specs.Order.{Task, IsUnlock, Holds, May, IsPermitted, Obeys}
@@ -36,8 +36,8 @@ pub record IsNextRequest (task : Task) (Allows : Trace → Ask → Type 0) (es :
 
 -- a client that stands where a trace leaves it: the trace obeys the order and the job's rule, and so does what is pending; where nothing is, there
 -- is an outcome, and no lock is held unless the numbers are spent; an outcome comes only where it may, and stands beside no pending request but the
--- unlock, which has one beside it. All that came was of versions that are known, but for what ended the job. Where nothing is pending and there is no outcome, it
--- may want input.
+-- unlock, which has one beside it. What is of a version that isn't known, and a refusal or a reply of the wrong sort, ended the job where it came. Where nothing is
+-- pending and there is no outcome, it may want input.
 pub record IsObedientWith (task : Task) (Allows : Trace → Ask → Type 0) (Gives : Trace → Exchange → Type 0) (Own : Trace → Outcome → Type 0)
     (Wanting : Trace → Type 0) (next : Option Request) (outcome : Option Outcome) (es : Trace) : Type 0 where
   pub obeys : Obeys task Allows Gives es
@@ -45,7 +45,7 @@ pub record IsObedientWith (task : Task) (Allows : Trace → Ask → Type 0) (Giv
   pub settled : next ≡ None → outcome ≡ None → Wanting es
   pub concluded : (o : Outcome) → outcome ≡ Some o → MayConclude (upto task.versions) task.notes Own (before_unlock es) o
   pub released : next ≡ None → outcome ≢ None → (token : Token) → Holds task token es → NumbersAreSpent es
-  pub understood : AreUnderstood (upto task.versions) outcome (before_unlock es)
+  pub heeded : AreHeeded (upto task.versions) task.notes outcome (before_unlock es)
   pub beside : (request : Request) → next ≡ Some request → outcome ≢ None → IsUnlock request.ask
   pub ending : (request : Request) → next ≡ Some request → IsUnlock request.ask → outcome ≢ None
 

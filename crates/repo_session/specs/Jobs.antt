@@ -6,10 +6,9 @@ use Rattle.repo_wire.specs.Messages.{IsAsk, IsShortAsk}
 use Rattle.repo_tree.specs.declared.configs.Config.{Config}
 use Rattle.repo_tree.specs.ConfigText.{IsConfigText}
 use Rattle.repo_session.specs.declared.jobs.Step.{Step}
-use Rattle.repo_session.specs.declared.outcomes.End.{End}
 use Rattle.repo_session.specs.declared.outcomes.Outcome.{Outcome}
 use Rattle.repo_session.specs.Askers.{Asker, Holding}
-use Rattle.repo_session.specs.Ends.{IsOfOtherVersion, MayConclude, MayPassOn}
+use Rattle.repo_session.specs.Ends.{EndsAtOnce, IsEndBy, IsPassedOn, MayConclude}
 use Rattle.repo_session.specs.Order.{Task, opened, IsWork, IsWorking, May, Obeys}
 use Rattle.repo_session.specs.Traces.{Exchange, Trace}
 use Rattle.repo_session.specs.Versions.{upto, shared}
@@ -51,12 +50,12 @@ pub record MayAsk (rule : Rule) (who : Asker) (Knows : Ask → Trace → Type 0)
 abbrev pub GivesBy : Rule → Trace → Exchange → Type 0
 GivesBy rule es e = (e.emitted ≡ []) ⊎ rule.gives es e
 
--- what a job may do on an exchange after a trace: ask for more; end; or pass on a refusal, or a reply of the wrong sort, that it doesn't note
+-- what a job may do on an exchange after a trace: ask for more; end; want input; or pass on a reply that is passed on
 abbrev pub MayTurn : Rule → Asker → (Ask → Trace → Type 0) → (Trace → Type 0) → Trace → Exchange → Step → Type 0
 MayTurn rule who Knows Wants es e (Step.Ask ask) = GivesBy rule es e × MayAsk rule who Knows (e ∷ es) ask
 MayTurn rule who Knows Wants es e (Step.Finish outcome) = GivesBy rule es e × MayConclude (known_under rule who) rule.notes rule.concludes (e ∷ es) outcome
 MayTurn rule who Knows Wants es e Step.Want = GivesBy rule es e × rule.wanting (e ∷ es) × Wants (e ∷ es)
-MayTurn rule who Knows Wants es e Step.Away = MayPassOn rule.notes e.ask e.say
+MayTurn rule who Knows Wants es e Step.Away = IsPassedOn rule.notes e.ask e.say
 
 -- a job that never wants input
 abbrev pub MayStep : Rule → Asker → (Ask → Trace → Type 0) → Trace → Exchange → Step → Type 0
@@ -91,10 +90,20 @@ TurnsOn rule holding Knew Knows Wants e step = (es : Trace) → IsWorking (task_
 abbrev pub StepsOn : Rule → Holding → (Ask → Trace → Type 0) → (Ask → Trace → Type 0) → Exchange → Step → Type 0
 StepsOn rule holding Knew Knows e step = TurnsOn rule holding Knew Knows (λ fs. ⊥) e step
 
--- a reply that brings what is of a version that isn't known to the job and to who asks ends the job, for that
-abbrev pub HeedsVersion : Rule → Holding → (Ask → Trace → Type 0) → Exchange → Step → Type 0
-HeedsVersion rule holding Knew e step = (es : Trace) → IsWorking (task_under rule holding.who) holding.token (e ∷ es) → Obeys (task_under rule holding.who) rule.allows rule.gives es
-    → MayAsk rule holding.who Knew es e.ask → IsOfOtherVersion (known_under rule holding.who) e.ask e.say → step ≡ Step.Finish (Outcome.Ended End.Version)
+-- the step ends the job by this exchange: by an end that it caused, or by passing its reply on
+abbrev pub IsEndStep : ℕ → Exchange → Step → Type 0
+IsEndStep known e (Step.Finish outcome) = IsEndBy known e outcome
+IsEndStep known e Step.Away = ⊤
+IsEndStep known e _ = ⊥
+
+-- where a job ends at once on the exchange, the step ends it by that
+abbrev pub HeedsOn : ℕ → Bool → Exchange → Step → Type 0
+HeedsOn known notes e step = EndsAtOnce known notes e → IsEndStep known e step
+
+-- so it is on each exchange of the job, by the versions that it and who asks know
+abbrev pub HeedsReply : Rule → Holding → (Ask → Trace → Type 0) → Exchange → Step → Type 0
+HeedsReply rule holding Knew e step = (es : Trace) → IsWorking (task_under rule holding.who) holding.token (e ∷ es) → Obeys (task_under rule holding.who) rule.allows rule.gives es → MayAsk rule holding.who Knew es e.ask
+    → HeedsOn (known_under rule holding.who) rule.notes e step
 
 -- what is asked next fits a frame
 abbrev pub IsShortStep : Step → Type 0

@@ -127,7 +127,7 @@ module _ (rule : Rule) (holding : Holding) (lock : Option LockRow) (Fresh : Type
     pending = λ r p. pending_is line line.next es r s.stands p;
     settled = settles line line.next es s.stands;
     concluded = λ o p. concludes_at line line.next es o s.stands p;
-    understood = s.understood;
+    heeded = s.heeded;
     released = λ p n token h. is_released line line.next es s.stands p n token h;
     beside = λ r p n. stands_beside line line.next es r s.stands p n;
     ending = λ r p u. is_ending line line.next es r s.stands p u;

@@ -15,7 +15,7 @@ use Rattle.repo_session.specs.declared.sessions.Head.{Head}
 use Rattle.repo_session.specs.declared.sessions.Session.{Session}
 use Rattle.repo_session.specs.Askers.{Asker, Holding}
 use Rattle.repo_session.specs.Clients.{IsNextRequest, exchange, IsReplyTo}
-use Rattle.repo_session.specs.Ends.{AreUnderstood, CausedBy, MayConclude, NumbersAreSpent, IsUnwelcome, before_unlock}
+use Rattle.repo_session.specs.Ends.{AreHeeded, CausedBy, MayConclude, NumbersAreSpent, IsUnwelcome, before_unlock}
 use Rattle.repo_session.specs.Jobs.{Rule, task_under, known_under}
 use Rattle.repo_session.specs.Lines.{IsSentOnLine, IsFinished, IsClosed, IsIdle}
 use Rattle.repo_session.specs.Order.{ticketed, locked, lock_row, Holds, IsWorking, Obeys, IsWork}
@@ -62,7 +62,7 @@ SessionStands rule holding lock Fresh Knows Wants line None es = SessionRests ru
 pub record SessionAt (rule : Rule) (holding : Holding) (lock : Option LockRow) (Fresh : Type 0) (Knows : Ask → Trace → Type 0) (Wants : Trace → Type 0) (line : Line) (es : Trace) : Type 0 where
   pub instance : line.instance ≡ holding.who.instance
   pub obeys : Obeys (task_under rule holding.who) rule.allows rule.gives es
-  pub understood : AreUnderstood (known_under rule holding.who) line.outcome (before_unlock es)
+  pub heeded : AreHeeded (known_under rule holding.who) rule.notes line.outcome (before_unlock es)
   pub stands : SessionStands rule holding lock Fresh Knows Wants line line.next es
 
 -- where the reply is a refusal, or of the wrong sort, it is a cause of this end

@@ -1,11 +1,11 @@
 //! Jobs: what a session does between its config and its unlock.
 
-ghost use Rattle.std.specs.Prelude.{◌≡◌, Bool, IfOk, OnErr, IsOk, List};
+ghost use Rattle.std.specs.Prelude.{◌≡◌, IfOk, OnErr, IsOk, List};
 ghost use Rattle.repo_wire.specs.declared.messages.Ask.{Ask};
 ghost use Rattle.repo_wire.specs.declared.messages.Code.{Code};
 ghost use Rattle.repo_wire.specs.declared.messages.Say.{Say};
 ghost use Rattle.repo_session.specs.declared.emissions.Emission.{Emission};
-ghost use Rattle.repo_session.specs.Jobs.{Rule, JobBegins, TurnsOn, HeedsVersion, IsShortStep};
+ghost use Rattle.repo_session.specs.Jobs.{Rule, JobBegins, TurnsOn, HeedsReply, IsShortStep};
 ghost use Rattle.repo_session.specs.Traces.{Trace, giving};
 
 use crate::emissions::Emission;
@@ -63,12 +63,12 @@ pub trait Job {
         ensures short { IsShortStep result }
         ensures handed { handed self.new ≡ handed self.old };
 
-    /// Takes the reply to a request of its own: one that brings a snapshot of a version that isn't known to the job and
-    /// to who asks ends it, for that. It fails for memory alone, and then it knows what it knew, and the reply may be
-    /// taken again.
+    /// Takes the reply to a request of its own: one that brings a snapshot of a version that isn't known to the job and to
+    /// who asks ends it, for that, and it passes on a refusal, or a reply of another sort than the request wants, but for
+    /// what it notes. It fails for memory alone, and then it knows what it knew, and the reply may be taken again.
     fn reply(&mut self, holder: &Holder, ask: &Ask, say: &Say) -> Result<Step, AllocError>
         ensures steps { IfOk result (TurnsOn (rule (handed self.old)) holder.now (knows self.old) (knows self.new) (wants self.new) (giving ask.now say.now (given self.new))) }
-        ensures heeds { IfOk result (HeedsVersion (rule (handed self.old)) holder.now (knows self.old) (giving ask.now say.now (given self.new))) }
+        ensures heeds { IfOk result (HeedsReply (rule (handed self.old)) holder.now (knows self.old) (giving ask.now say.now (given self.new))) }
         ensures short { IfOk result IsShortStep }
         ensures calm { (code : Code) → say.now ≡ Say.Refused code → (rule (handed self.old)).calm → IsOk result }
         ensures knows { OnErr result ((es : Trace) → knows self.old ask.now es → knows self.new ask.now es) }

@@ -36,7 +36,7 @@ use Rattle.repo_writing.proofs.Replacing.{put_says}
 use Rattle.repo_backup.specs.Folders.{blobs_of}
 use Rattle.repo_backup.specs.Items.{spelled_by}
 use Rattle.repo_backup.specs.Rules as backing
-use Rattle.repo_restore.specs.Restoring.{IsForBlob}
+use Rattle.repo_session.specs.Ends.{AsksPart}
 use Rattle.repo_prune.specs.declared.choices.Choice.{Choice}
 use Rattle.repo_prune.specs.Pruning.{IsSettled, MayDeleteIndex, MayDeletePack}
 use Rattle.repo_prune.proofs.PruneRuns.{nothing_deleted, row_replaced}
@@ -170,12 +170,12 @@ prune_pack es n r =
     }
 
 prune_owes : (es : Trace) (ask : Ask) → (rule_of Job.Prune).allows es ask → Owes Job.Prune es ask
-prune_owes es (Ask.Put token Kind.Pack n x) r = (nothing_deleted es r.none, (r.items, r.pack))
-prune_owes es (Ask.Put token Kind.Index n x) r = (nothing_deleted es r.none, lists_put_or_kept es x r)
-prune_owes es (Ask.Put token Kind.Snapshot n x) r = absurd r
-prune_owes es (Ask.Delete token Kind.Index n) r = prune_index es n r
-prune_owes es (Ask.Delete token Kind.Pack n) r = prune_pack es n r
-prune_owes es (Ask.Delete token Kind.Snapshot n) r = absurd r
+prune_owes es (Ask.Put token Kind.Pack n x) r = (nothing_deleted es r.1.known.none, (r.1.items, r.1.pack))
+prune_owes es (Ask.Put token Kind.Index n x) r = (nothing_deleted es r.1.known.none, lists_put_or_kept es x r.1)
+prune_owes es (Ask.Put token Kind.Snapshot n x) r = absurd r.1
+prune_owes es (Ask.Delete token Kind.Index n) r = prune_index es n r.1
+prune_owes es (Ask.Delete token Kind.Pack n) r = prune_pack es n r.1
+prune_owes es (Ask.Delete token Kind.Snapshot n) r = absurd r.1
 prune_owes es _ r = tt
 
 -- ---- what the others ask
@@ -229,7 +229,7 @@ module _ (job : Job) (who : Asker) where
 
 -- nothing is given out on the end of the lock
 unlock_gives : (job : Job) (es : Trace) (e : Exchange) (token : Token) → e.ask ≡ Ask.Unlock token → (rule_of job).gives es e → ⊥
-unlock_gives (Job.Restore s) es e token q gives = subst IsForBlob q gives.0
+unlock_gives (Job.Restore s) es e token q gives = subst AsksPart q gives.0
 unlock_gives (Job.Backup entries) es e token q gives = gives
 unlock_gives Job.Pieces es e token q gives = gives
 unlock_gives Job.List es e token q gives = gives
@@ -267,7 +267,7 @@ with_unlock P _ e es q more h = h
 rule_tells : (job : Job) (es : Trace) (o : Outcome) (known : ℕ) → ends.Concludes known (rule_of job).concludes es o → Tells job es o
 rule_tells (Job.Backup entries) es (Outcome.Stored name blobs bytes) known r = (r.text, r.put)
 rule_tells Job.Pieces es (Outcome.Stored name blobs bytes) known r = (r.text, r.put)
-rule_tells (Job.Restore s) es (Outcome.Complete count) known (version, root, found, spells, counted, whole) = record { version = version; root = root; found = found; spells = spells; whole = whole }
+rule_tells (Job.Restore s) es (Outcome.Complete count) known h = let is = h.0 in record { version = is.0; root = is.1; found = is.2; spells = is.3; whole = is.5 }
 rule_tells Job.Upgrade es Outcome.Upgraded known r = r
 rule_tells (Job.Restore s) es (Outcome.Stored name blobs bytes) known r = absurd r
 rule_tells Job.List es (Outcome.Stored name blobs bytes) known r = absurd r

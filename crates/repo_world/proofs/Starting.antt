@@ -28,8 +28,8 @@ unlisted : false ≡ true → ⊥
 unlisted e = absurd (cc)
 
 restore_ends : (snapshot : Name) (end : End) → (rule_of (Job.Restore snapshot)).concludes [] (Outcome.Ended end) → ⊥
-restore_ends snapshot (End.Missing thing name) h = h.0.found.2.0
-restore_ends snapshot (End.BadObject Thing.Tree tree) h = ⊎_elim (λ bad. bad.found.2.0) (λ part. part) h
+restore_ends snapshot (End.Missing thing name) h = h.0.0.found.2.0
+restore_ends snapshot (End.BadObject Thing.Tree tree) h = ⊎_elim (λ bad. bad.0.found.2.0) (λ part. part) h
 restore_ends snapshot (End.BadObject Thing.Pack tree) h = h
 restore_ends snapshot (End.BadObject Thing.Index tree) h = h
 restore_ends snapshot (End.BadObject Thing.Snapshot tree) h = h
@@ -44,8 +44,8 @@ restore_ends snapshot End.FileTooLarge h = h
 restore_ends snapshot End.Abandoned h = h
 
 prune_ends : (end : End) → (rule_of Job.Prune).concludes [] (Outcome.Ended end) → ⊥
-prune_ends (End.Missing thing name) h = h.1.1
-prune_ends (End.BadObject Thing.Tree tree) h = ⊎_elim (λ bad. bad.1.among) (λ part. part) h
+prune_ends (End.Missing thing name) h = h.2.1
+prune_ends (End.BadObject Thing.Tree tree) h = ⊎_elim (λ bad. bad.2.among) (λ part. part) h
 prune_ends (End.BadObject Thing.Pack tree) h = h
 prune_ends (End.BadObject Thing.Index tree) h = h
 prune_ends (End.BadObject Thing.Snapshot tree) h = h
@@ -105,10 +105,10 @@ no_outcome : (job : Job) (o : Outcome) → (rule_of job).concludes [] o → ⊥
 no_outcome job (Outcome.Ended end) h = no_end job end h
 no_outcome (Job.Backup entries) (Outcome.Stored name blobs bytes) h = h.put.1
 no_outcome Job.Pieces (Outcome.Stored name blobs bytes) h = h.put.1
-no_outcome (Job.Restore snapshot) (Outcome.Complete entries) h = h.2.2.0
+no_outcome (Job.Restore snapshot) (Outcome.Complete entries) h = h.0.2.2.0
 no_outcome Job.List (Outcome.Listed rows) h = unlisted h.listed.complete
 no_outcome (Job.Forget choice) (Outcome.Forgotten names) h = unlisted (forgot_listed choice [] names h)
-no_outcome Job.Prune (Outcome.Pruned packs bytes) h = unlisted h.all.complete
+no_outcome Job.Prune (Outcome.Pruned packs bytes) h = unlisted h.1.all.complete
 no_outcome Job.Check (Outcome.Clean snapshots indexes packs blobs) h = unlisted (h.received.objects Kind.Snapshot).listed.complete
 no_outcome Job.Check (Outcome.Faults faults) h = unlisted (h.received.objects Kind.Snapshot).listed.complete
 no_outcome Job.Upgrade Outcome.Upgraded (inl h) = h.read

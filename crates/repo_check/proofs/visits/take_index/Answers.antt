@@ -5,6 +5,7 @@ use Rattle.repo_name.specs.declared.kinds.Kind.{Kind}
 use Rattle.repo_check.specs.Arrivals.{IsIndexOf}
 use Rattle.repo_check.specs.declared.rounds.Note.{Note}
 use Rattle.repo_check.proofs.Rounding.{ended, ok_with, taken}
+use Rattle.repo_check.proofs.Heeding.{noted_heeds}
 use Rattle.repo_check.proofs.visits.take_index.Goals as goal
 
 pub returns-in-Read-clause-takes : goal.returns-in-Read-clause-takes
@@ -22,3 +23,13 @@ pub returns-in-Unwelcome-clause-takes : goal.returns-in-Unwelcome-clause-takes
 returns-in-Unwelcome-clause-takes c =
     let look = rw c.in-Unwelcome.is at c.in_ok-text.ensures in
     ended Kind.Index IsIndexOf (round_of c.args.round.now) c.args.name c.args.say.now look
+
+pub returns-in-Read-clause-heeds : goal.returns-in-Read-clause-heeds
+returns-in-Read-clause-heeds c =
+    let look = rw c.in-Read.is at c.in_ok-text.ensures in
+    noted_heeds Kind.Index c.args.name c.args.say.now look.0 c.go_on.result look.1 (λ known other. other)
+
+pub returns-in-Fault-clause-heeds : goal.returns-in-Fault-clause-heeds
+returns-in-Fault-clause-heeds c =
+    let look = rw c.in-Fault.is at c.in_ok-text.ensures in
+    noted_heeds Kind.Index c.args.name c.args.say.now look.0 c.go_on-in-Fault.result look.1 (λ known other. other)

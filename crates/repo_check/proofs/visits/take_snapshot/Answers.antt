@@ -1,5 +1,4 @@
-use Rattle.std.proofs.Common.{ap, refl}
-use Rattle.repo_wire.specs.declared.messages.Ask.{Ask}
+use Rattle.std.proofs.Common.{ap}
 use Rattle.repo_session.specs.Versions.{upto}
 use Rattle.repo_session.specs.declared.rolls.Roll.{Roll}
 use Rattle.repo_check.specs.Rounds.{round_of}
@@ -8,7 +7,7 @@ use Rattle.repo_check.specs.Arrivals.{IsRootOf}
 use Rattle.repo_check.specs.declared.rounds.Note.{Note}
 use Rattle.repo_check.specs.declared.rounds.Turn.{Turn}
 use Rattle.repo_check.proofs.Rounding.{by_versions, ended, of_any, ok_with, other_version, taken}
-use Rattle.repo_session.proofs.Understanding.{unwelcome_understood}
+use Rattle.repo_check.proofs.Heeding.{object_heeds}
 use Rattle.repo_check.proofs.visits.take_snapshot.Goals as goal
 
 pub returns-in-Root-clause-takes : goal.returns-in-Root-clause-takes
@@ -37,17 +36,12 @@ returns-in-Unwelcome-clause-takes c =
 pub returns-in-Root-clause-heeds : goal.returns-in-Root-clause-heeds
 returns-in-Root-clause-heeds c =
     let look = rw c.in-Root.is at c.in_ok-root.ensures in
-    of_any c.go_on.result _ (λ turn other. absurd (look.3 other))
+    of_any c.go_on.result _ (λ turn. object_heeds (upto c.args.versions) Kind.Snapshot c.args.name c.args.say.now look.0 turn look.1 look.3)
 
 pub returns-in-Fault-clause-heeds : goal.returns-in-Fault-clause-heeds
 returns-in-Fault-clause-heeds c =
     let look = rw c.in-Fault.is at c.in_ok-root.ensures in
-    of_any c.go_on-in-Fault.result _ (λ turn other. absurd (look.3 other))
+    of_any c.go_on-in-Fault.result _ (λ turn. object_heeds (upto c.args.versions) Kind.Snapshot c.args.name c.args.say.now look.0 turn look.1 look.3)
 
 pub returns-in-Version-clause-heeds : goal.returns-in-Version-clause-heeds
-returns-in-Version-clause-heeds c = λ other. refl
-
-pub returns-in-Unwelcome-clause-heeds : goal.returns-in-Unwelcome-clause-heeds
-returns-in-Unwelcome-clause-heeds c = λ other.
-    let look = rw c.in-Unwelcome.is at c.in_ok-root.ensures in
-    absurd (unwelcome_understood (upto c.args.versions) (Ask.Get Kind.Snapshot c.args.name) c.args.say.now look.0 other)
+returns-in-Version-clause-heeds c = λ ends. rw c.in-Version.is at c.in_ok-root.ensures

@@ -1,8 +1,12 @@
-use Rattle.std.proofs.Common.{arith, ◌≡◌, ◌∷◌, [], List, Vec, Global, refl, sym, ap, subst, inl, ◌∙◌}
+use Rattle.std.proofs.Common.{arith, false, ◌≡◌, ◌∷◌, [], List, Vec, Global, refl, sym, ap, subst, inl, ◌∙◌}
+use Rattle.repo_name.specs.declared.kinds.Thing.{Thing}
 use Rattle.repo_session.specs.Feeds.{Fed}
+use Rattle.repo_session.specs.Jobs.{known_under}
 use Rattle.repo_session.specs.Traces.{Exchange, silent}
 use Rattle.repo_session.specs.declared.jobs.Step.{Step}
+use Rattle.repo_session.specs.declared.outcomes.End.{End}
 use Rattle.repo_session.proofs.Cataloguing.{are_indexed}
+use Rattle.repo_session.proofs.Heeding.{heeds_end}
 use Rattle.repo_session.proofs.KindReads.{due_index}
 use Rattle.repo_tree.specs.declared.entries.Entry.{Entry}
 use Rattle.repo_backup.specs.BackupStates.{backup_task}
@@ -12,6 +16,7 @@ use Rattle.repo_backup.specs.Rules.{backup_rule}
 use Rattle.repo_backup.specs.declared.steps.WalkStep.{WalkStep}
 use Rattle.repo_backup.proofs.BackupStepping.{anew_begun, may_read}
 use Rattle.repo_backup.proofs.PieceStepping.{begun_still, stands_first, none_waits, turns_on}
+use Rattle.repo_backup.proofs.Replying.{reading_follows}
 use Rattle.repo_backup.proofs.Staging.{if_ok, on_three}
 use Rattle.repo_backup.proofs.backups.Backup.read_on.Goals as goal
 
@@ -23,7 +28,7 @@ returns-in-Ask-clause-ok c = λ es working obeys asked.
     let say = c.args.say.now in
     let e : Exchange = silent ask say in
     let reads = rw c.in-Ask.is at c.in_ok-ask.ensures.ok in
-    let due = reads (backup_task holding.who) holding.token [] es working asked.may asked.knows.knows in
+    let due = (reads (backup_task holding.who) holding.token [] es working asked.may asked.knows.knows).1 in
     let work = asked.knows.begun in (
       inl refl,
       record {
@@ -46,8 +51,8 @@ returns-in-All-clause-ok c = if_ok _ _ c.go_first.result (λ (step : Step) goes 
     let all = reads (backup_task holding.who) holding.token [] es working asked.may asked.knows.knows in
     let work = asked.knows.begun in
     let begun = begun_still old.catalog work.0 ask say es asked.knows.knows work.2 in
-    let indexed = are_indexed d.roll.kind d.roll.names.items d.roll.read d.lookup (e ∷ es) all.0 all.1 in
-    let first = stands_first d.lookup work.0 (e ∷ es) begun indexed all.0.gives in
+    let indexed = are_indexed d.roll.kind d.roll.names.items d.roll.read d.lookup (e ∷ es) all.1 all.2 in
+    let first = stands_first d.lookup work.0 (e ∷ es) begun indexed all.1.gives in
     let room = none_waits work.0.waiting begun.waiting in
     turns_on (backup_rule (handed_to old)) holding.who (Knows c.go_first.new.self) (λ fs. ⊥) e es step refl
     (goes work.0 (e ∷ es) working work.1 (record { puts = []; goes = record { items = []; leads = asked.knows.leads; at = first; unsealed = begun.ready.unsealed }; none = begun.listed; few = omega (arith, room) }))) c.go_first.ensures.ok
@@ -85,3 +90,29 @@ returns-in-Unwelcome-clause-ok c = λ es working obeys asked.
     let holding = c.args.holder.now in
     let reads = rw c.in-Unwelcome.is at c.in_ok-ask.ensures.ok in
     reads (backup_task holding.who) holding.token [] es working asked.may asked.knows.knows
+
+pub returns-in-Ask-clause-heeds : goal.returns-in-Ask-clause-heeds
+returns-in-Ask-clause-heeds c = λ es working obeys asked ends.
+    let old = c.args.self.now in
+    let holding = c.args.holder.now in
+    let reads = (rw c.in-Ask.is at c.in_ok-ask.ensures.ok) (backup_task holding.who) holding.token [] es working asked.may asked.knows.knows in
+    absurd (reading_follows (known_under (backup_rule (handed_to old)) holding.who) false old.catalog c.args.ask.now c.args.say.now es asked.knows.knows reads.0 ends)
+
+pub returns-in-All-clause-heeds : goal.returns-in-All-clause-heeds
+returns-in-All-clause-heeds c = if_ok _ _ c.go_first.result (λ (step : Step) short es working obeys asked ends.
+    let old = c.args.self.now in
+    let holding = c.args.holder.now in
+    let reads = (rw c.in-All.is at c.in_ok-ask.ensures.ok) (backup_task holding.who) holding.token [] es working asked.may asked.knows.knows in
+    absurd (reading_follows (known_under (backup_rule (handed_to old)) holding.who) false old.catalog c.args.ask.now c.args.say.now es asked.knows.knows reads.0 ends)) c.go_first.ensures.short
+
+pub returns-in-Bad-clause-heeds : goal.returns-in-Bad-clause-heeds
+returns-in-Bad-clause-heeds c = λ es working obeys asked.
+    let holding = c.args.holder.now in
+    let reads = (rw c.in-Bad.is at c.in_ok-ask.ensures.ok) (backup_task holding.who) holding.token [] es working asked.may asked.knows.knows in
+    heeds_end (known_under (backup_rule (handed_to c.args.self.now)) holding.who) false (silent c.args.ask.now c.args.say.now) (End.BadObject Thing.Index c.in-Bad.name) reads
+
+pub returns-in-Senseless-clause-heeds : goal.returns-in-Senseless-clause-heeds
+returns-in-Senseless-clause-heeds c = λ es working obeys asked.
+    let holding = c.args.holder.now in
+    let reads = (rw c.in-Senseless.is at c.in_ok-ask.ensures.ok) (backup_task holding.who) holding.token [] es working asked.may asked.knows.knows in
+    heeds_end (known_under (backup_rule (handed_to c.args.self.now)) holding.who) false (silent c.args.ask.now c.args.say.now) End.BadReply reads

@@ -1,13 +1,12 @@
 use Rattle.std.proofs.Common.{[], refl, ap}
 use Rattle.repo_backup.specs.Plans.{walked}
-use Rattle.repo_backup.proofs.BackupReplying.{heeds_so}
 use Rattle.repo_backup.proofs.PackingLemmas.{on_err}
 use Rattle.repo_backup.proofs.backups.BackupJob.reply.Goals as goal
 
 pub returns-in_default : goal.returns-in_default
 returns-in_default c = record {
   steps = c.take.ensures.ok;
-  heeds = heeds_so c.args.self.now c.args.holder.now c.args.ask.now c.args.say.now c.take.result;
+  heeds = c.take.ensures.heeds;
   short = c.take.ensures.short;
   calm = λ code is any. absurd (c.in_default.not-Refused code is);
   knows = c.take.ensures.err;

@@ -1,13 +1,15 @@
-use Rattle.std.proofs.Common.{◌∷◌, refl, sym, subst, inl}
+use Rattle.std.proofs.Common.{◌∷◌, refl, sym, inl}
 use Rattle.std.proofs.lemmas.Result.{IfOk-weaker, on_err_weaker}
-use Rattle.repo_session.specs.Ends.{IsOfOtherVersion}
+use Rattle.repo_session.specs.declared.outcomes.End.{End}
 use Rattle.repo_session.specs.Traces.{silent}
 use Rattle.repo_session.specs.Versions.{upto}
 use Rattle.repo_check.specs.Checking.{check_task}
 use Rattle.repo_check.specs.Surveys.{rounds_of}
 use Rattle.repo_check.specs.Walks.{walk_of}
 use Rattle.repo_check.specs.declared.checks.Check.{Check}
+use Rattle.repo_check.specs.declared.surveys.Next.{Next}
 use Rattle.repo_check.proofs.CheckSteps.{concludes, may_ask}
+use Rattle.repo_check.proofs.Heeding.{asker_heeds}
 use Rattle.repo_check.proofs.Rounding.{of_any, on_any}
 use Rattle.repo_check.proofs.checks.CheckJob.reply.Goals as goal
 
@@ -49,25 +51,13 @@ returns-in-Away-clause-steps c = λ es w obeys asked.
     takes (check_task c.args.holder.now.who) c.args.holder.now.token es (sym c.versions.ensures) w asked.may asked.knows
 
 pub returns-in-Ask-clause-heeds : goal.returns-in-Ask-clause-heeds
-returns-in-Ask-clause-heeds c = λ es w obeys asked other.
-    let heeds = rw c.in-Ask.is at c.in_ok-next.ensures.heeds in
-    let is = heeds asked.work (subst (λ versions. IsOfOtherVersion (upto versions) c.args.ask.now c.args.say.now) (sym c.versions.ensures) other) in
-    absurd (cc)
+returns-in-Ask-clause-heeds c = λ es w obeys asked ends. asker_heeds c.versions.result c.args.holder.now.who.versions c.args.ask.now c.args.say.now (Next.Ask c.in-Ask.next) c.versions.ensures (rw c.in-Ask.is at c.in_ok-next.ensures.heeds) ends
 
 pub returns-in-Over-clause-heeds : goal.returns-in-Over-clause-heeds
-returns-in-Over-clause-heeds c = of_any c.conclude.result _ (λ step es w obeys asked other.
-    let heeds = rw c.in-Over.is at c.in_ok-next.ensures.heeds in
-    let is = heeds asked.work (subst (λ versions. IsOfOtherVersion (upto versions) c.args.ask.now c.args.say.now) (sym c.versions.ensures) other) in
-    absurd (cc))
+returns-in-Over-clause-heeds c = of_any c.conclude.result _ (λ step es w obeys asked ends. absurd (asker_heeds c.versions.result c.args.holder.now.who.versions c.args.ask.now c.args.say.now Next.Over c.versions.ensures (rw c.in-Over.is at c.in_ok-next.ensures.heeds) ends))
 
 pub returns-in-Senseless-clause-heeds : goal.returns-in-Senseless-clause-heeds
-returns-in-Senseless-clause-heeds c = λ es w obeys asked other.
-    let heeds = rw c.in-Senseless.is at c.in_ok-next.ensures.heeds in
-    let is = heeds asked.work (subst (λ versions. IsOfOtherVersion (upto versions) c.args.ask.now c.args.say.now) (sym c.versions.ensures) other) in
-    absurd (cc)
+returns-in-Senseless-clause-heeds c = λ es w obeys asked ends. (End.BadReply, refl, asker_heeds c.versions.result c.args.holder.now.who.versions c.args.ask.now c.args.say.now Next.Senseless c.versions.ensures (rw c.in-Senseless.is at c.in_ok-next.ensures.heeds) ends)
 
-pub returns-in-Away-clause-heeds : goal.returns-in-Away-clause-heeds
-returns-in-Away-clause-heeds c = λ es w obeys asked other.
-    let heeds = rw c.in-Away.is at c.in_ok-next.ensures.heeds in
-    let is = heeds asked.work (subst (λ versions. IsOfOtherVersion (upto versions) c.args.ask.now c.args.say.now) (sym c.versions.ensures) other) in
-    absurd (cc)
+pub returns-in-Version-clause-heeds : goal.returns-in-Version-clause-heeds
+returns-in-Version-clause-heeds c = λ es w obeys asked ends. (End.Version, refl, asker_heeds c.versions.result c.args.holder.now.who.versions c.args.ask.now c.args.say.now Next.Version c.versions.ensures (rw c.in-Version.is at c.in_ok-next.ensures.heeds) ends)

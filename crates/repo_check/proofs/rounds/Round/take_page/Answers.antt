@@ -6,6 +6,8 @@ use Rattle.repo_session.specs.Rolls.{IsPaged}
 use Rattle.repo_session.specs.Traces.{silent}
 use Rattle.repo_check.specs.Rounds.{ArePast, round_of}
 use Rattle.repo_check.specs.declared.rounds.Round.{Round}
+use Rattle.repo_check.specs.declared.rounds.Turn.{Turn}
+use Rattle.repo_check.proofs.Heeding.{page_heeds}
 use Rattle.repo_check.proofs.Rounding.{listing_rolls, next_on, past_on, roll_known}
 use Rattle.repo_check.proofs.rounds.Round.take_page.Goals as goal
 
@@ -41,3 +43,12 @@ pub returns-in-Unwelcome-clause-pages : goal.returns-in-Unwelcome-clause-pages
 returns-in-Unwelcome-clause-pages g c = λ task token k after es w may listing.
     let pages = rw c.in-Unwelcome.is at c.in_ok-ask.ensures.pages in
     (pages task token k after [] es w may (listing_rolls k c.args.self.now after es listing), λ tells. tells)
+
+pub returns-in-Ask-clause-heeds : goal.returns-in-Ask-clause-heeds
+returns-in-Ask-clause-heeds g c = λ known kind after. page_heeds known kind after c.args.say.now (Turn.Ask c.in-Ask.ask) (rw c.in-Ask.is at c.in_ok-ask.ensures.takes).0.1
+
+pub returns-in-Last-clause-heeds : goal.returns-in-Last-clause-heeds
+returns-in-Last-clause-heeds g c = λ known kind after. page_heeds known kind after c.args.say.now c.next.result (rw c.in-Last.is at c.in_ok-ask.ensures.takes).1
+
+pub returns-in-Senseless-clause-heeds : goal.returns-in-Senseless-clause-heeds
+returns-in-Senseless-clause-heeds g c = λ known kind after. page_heeds known kind after c.args.say.now Turn.Senseless (rw c.in-Senseless.is at c.in_ok-ask.ensures.takes).0.2

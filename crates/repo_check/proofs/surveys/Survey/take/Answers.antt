@@ -1,14 +1,14 @@
 use Rattle.std.proofs.Common.{◌≡◌, ℕ, Option, sym, subst}
+use Rattle.std.proofs.lemmas.Result.{IfOk-weaker}
 use Rattle.repo_name.specs.declared.names.Name.{Name}
 use Rattle.repo_wire.specs.declared.messages.Ask.{Ask}
-use Rattle.repo_check.specs.Surveys.{HasTaken, SurveyTakesBy, Surveys, TakesSurvey, rounds_of}
+use Rattle.repo_check.specs.Surveys.{HasTaken, HeedsNext, SurveyTakesBy, Surveys, TakesSurvey, rounds_of}
 use Rattle.repo_check.specs.Walks.{walk_of}
 use Rattle.repo_check.specs.declared.surveys.Next.{Next}
 use Rattle.repo_check.proofs.Arriving.{ok_then}
-use Rattle.repo_session.specs.Ends.{IsOfOtherVersion}
 use Rattle.repo_session.specs.Versions.{upto}
-use Rattle.repo_check.proofs.Rounding.{err_with, of_any}
-use Rattle.repo_check.proofs.Surveying.{other_page, other_work}
+use Rattle.repo_check.proofs.Rounding.{err_with}
+use Rattle.repo_check.proofs.Surveying.{other_page}
 use Rattle.repo_check.proofs.surveys.Survey.take.Goals as goal
 
 pub returns-in-List-clause-takes : goal.returns-in-List-clause-takes
@@ -57,13 +57,14 @@ returns-in-Range-clause-over c =
     ok_then P (λ next. next ≡ Next.Over → T c.args.ask.now) c.take_tree.result (λ next h over. subst (λ ask. T ask) (sym c.in-Range.is) (h over c.in-Range.pack c.in-Range.offset c.in-Range.length)) c.take_tree.ensures.over
 
 pub returns-in-List-clause-heeds : goal.returns-in-List-clause-heeds
-returns-in-List-clause-heeds c = of_any c.take_page.result _ (λ next work other. absurd (subst (λ ask. IsOfOtherVersion (upto c.args.versions) ask c.args.say.now) c.in-List.is other))
+returns-in-List-clause-heeds c =
+    let known = upto c.args.versions in
+    IfOk-weaker c.take_page.result _ _ (λ next heeds. subst (λ ask. HeedsNext known ask c.args.say.now next) (sym c.in-List.is) (heeds known c.in-List.after)) c.take_page.ensures.heeds
 
 pub returns-in-Get-clause-heeds : goal.returns-in-Get-clause-heeds
 returns-in-Get-clause-heeds c = rw c.in-Get.is c.take_object.ensures.heeds
 
 pub returns-in-Range-clause-heeds : goal.returns-in-Range-clause-heeds
-returns-in-Range-clause-heeds c = of_any c.take_tree.result _ (λ next work other. absurd (subst (λ ask. IsOfOtherVersion (upto c.args.versions) ask c.args.say.now) c.in-Range.is other))
-
-pub returns-in_default-clause-heeds : goal.returns-in_default-clause-heeds
-returns-in_default-clause-heeds c = λ work other. absurd (other_work (upto c.args.versions) c.args.ask.now c.args.say.now c.in_default.not-Get work other)
+returns-in-Range-clause-heeds c =
+    let known = upto c.args.versions in
+    IfOk-weaker c.take_tree.result _ _ (λ next heeds. subst (λ ask. HeedsNext known ask c.args.say.now next) (sym c.in-Range.is) (heeds known c.in-Range.pack c.in-Range.offset c.in-Range.length)) c.take_tree.ensures.heeds

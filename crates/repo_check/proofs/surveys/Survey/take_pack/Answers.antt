@@ -5,6 +5,7 @@ use Rattle.repo_check.specs.Rounds.{round_of}
 use Rattle.repo_check.specs.Surveys.{RoundsView, TakesSurvey, rounds_of}
 use Rattle.repo_check.specs.Walks.{walk_of}
 use Rattle.repo_check.proofs.Trailing.{packs_got}
+use Rattle.repo_check.proofs.Heeding.{trees_heed}
 use Rattle.repo_check.proofs.surveys.Survey.take_pack.Goals as goal
 
 pub returns-in-Ok-clause-takes : goal.returns-in-Ok-clause-takes
@@ -15,3 +16,6 @@ returns-in-Ok-clause-takes c =
     let now = c.after_packs.new.self in
     subst (λ r. TakesSurvey old walk (Ask.Get Kind.Pack c.args.name) c.args.say.now c.in-Ok.next r (walk_of now.walk)) (sym c.in-Ok.ensures.rounds)
     (λ task token es w may h. packs_got old mid walk (walk_of now.walk) c.args.say.now c.in_ok-turn.turn c.in-Ok.next refl refl c.in-Ok.ensures.after c.args.name c.in_ok-turn.ensures.takes task token es w h)
+
+pub returns-in-Ok-clause-heeds : goal.returns-in-Ok-clause-heeds
+returns-in-Ok-clause-heeds c = λ known. trees_heed known (Ask.Get Kind.Pack c.args.name) c.args.say.now _ (walk_of c.after_packs.new.self.walk) c.in_ok-turn.turn c.in-Ok.next c.in-Ok.ensures.after (c.in_ok-turn.ensures.heeds known)

@@ -1,4 +1,5 @@
 use Rattle.std.proofs.Common.{Option, ap, refl, sym, subst, ◌∙◌}
+use Rattle.std.proofs.lemmas.Result.{IfOk-weaker}
 use Rattle.repo_name.specs.declared.kinds.Kind.{Kind}
 use Rattle.repo_name.specs.declared.names.Name.{Name}
 use Rattle.repo_wire.specs.declared.messages.Ask.{Ask}
@@ -10,6 +11,7 @@ use Rattle.repo_check.proofs.Arriving.{ok_then}
 use Rattle.repo_check.proofs.Surveying.{listing_packs}
 use Rattle.repo_check.proofs.Rounding.{err_with}
 use Rattle.repo_check.proofs.Trailing.{packs_page}
+use Rattle.repo_check.proofs.Heeding.{trees_heed}
 use Rattle.repo_check.proofs.surveys.Survey.take_pack_page.Goals as goal
 
 pub returns-clause-takes : goal.returns-clause-takes
@@ -30,3 +32,8 @@ returns-clause-same c = err_with c.after_packs.result (λ all after es h.
     let at = listing_packs (rounds_of c.args.self.now) (walk_of c.args.self.now.walk) es after h in
     let same = c.in_ok-turn.ensures.all all at.packs.1.none in
     c.after_packs.ensures.rounds ∙ (λ i. record { snapshots = round_of c.args.self.now.snapshots; indexes = round_of c.args.self.now.indexes; packs = same i })) c.after_packs.ensures.err
+
+pub returns-clause-heeds : goal.returns-clause-heeds
+returns-clause-heeds c =
+    let turn = c.in_ok-turn.turn in
+    IfOk-weaker c.after_packs.result _ _ (λ next goes known after. trees_heed known (Ask.List Kind.Pack after) c.args.say.now _ (walk_of c.after_packs.new.self.walk) turn next goes (c.in_ok-turn.ensures.heeds known Kind.Pack after)) c.after_packs.ensures.after

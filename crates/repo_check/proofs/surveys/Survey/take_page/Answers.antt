@@ -14,3 +14,12 @@ returns-in-Snapshot-clause-takes c = rw c.in-Snapshot.is c.take_snapshot_page.en
 
 pub returns-in-Pack-clause-over : goal.returns-in-Pack-clause-over
 returns-in-Pack-clause-over c = rw c.in-Pack.is c.take_pack_page.ensures.over
+
+pub returns-in-Pack-clause-heeds : goal.returns-in-Pack-clause-heeds
+returns-in-Pack-clause-heeds c = rw c.in-Pack.is c.take_pack_page.ensures.heeds
+
+pub returns-in-Index-clause-heeds : goal.returns-in-Index-clause-heeds
+returns-in-Index-clause-heeds c = rw c.in-Index.is c.take_index_page.ensures.heeds
+
+pub returns-in-Snapshot-clause-heeds : goal.returns-in-Snapshot-clause-heeds
+returns-in-Snapshot-clause-heeds c = rw c.in-Snapshot.is c.take_snapshot_page.ensures.heeds

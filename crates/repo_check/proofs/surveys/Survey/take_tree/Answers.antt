@@ -5,6 +5,7 @@ use Rattle.repo_check.specs.Walks.{Awaits, walk_of}
 use Rattle.repo_check.proofs.Rounding.{on_any}
 use Rattle.repo_check.proofs.Surveying.{ranging}
 use Rattle.repo_check.proofs.Trailing.{tree_taken}
+use Rattle.repo_check.proofs.Heeding.{tree_heeds}
 use Rattle.repo_check.proofs.surveys.Survey.take_tree.Goals as goal
 
 pub returns-in_default-clause-takes : goal.returns-in_default-clause-takes
@@ -35,3 +36,8 @@ returns-clause-over c = λ over pack offset len. (
       let same = same_Some _ _ (c.in-Some.ensures at.roots at.fact at.awaits) in
       (at.roots, c.in-Some.fact, c.in-Some-2.note, subst (λ f. Awaits at.roots walk f) (sym same) at.awaits, c.in_ok-next.ensures.takes.noted),
 )
+
+pub returns-clause-heeds : goal.returns-clause-heeds
+returns-clause-heeds c = λ known pack offset len.
+    let told = rw c.in-Some-2.is at c.in_ok-note.ensures.notes in
+    tree_heeds known c.in-Some.fact c.args.say.now told.0 pack offset len c.next_of.result told.1

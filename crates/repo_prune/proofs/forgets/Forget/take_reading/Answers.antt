@@ -1,12 +1,15 @@
-use Rattle.std.proofs.Common.{◌≡◌, ◌∷◌, [], refl, subst, inl}
+use Rattle.std.proofs.Common.{◌∷◌, [], refl, sym, subst, inl}
 use Rattle.repo_name.specs.declared.kinds.Thing.{Thing}
 use Rattle.repo_session.specs.Ends.{IsBad, IsOfOtherVersion, IsSenseless}
 use Rattle.repo_session.specs.Traces.{Exchange, silent}
 use Rattle.repo_session.specs.Versions.{upto}
+use Rattle.repo_session.specs.declared.jobs.Step.{Step}
+use Rattle.repo_session.specs.declared.outcomes.End.{End}
+use Rattle.repo_session.specs.declared.outcomes.Outcome.{Outcome}
 use Rattle.repo_session.specs.declared.snapshot_rolls.SnapshotReading.{SnapshotReading}
 use Rattle.repo_prune.specs.declared.forgets.Forget.{Forget}
 use Rattle.repo_prune.specs.Forgetting.{forget_task}
-use Rattle.repo_prune.proofs.Heeding.{forget_heeds}
+use Rattle.repo_prune.proofs.Heeding.{listing_heeds}
 use Rattle.repo_prune.proofs.Choosing.{may_read, none_read, read_chosen}
 use Rattle.repo_prune.proofs.forgets.Forget.take_reading.Goals as goal
 
@@ -56,36 +59,31 @@ returns-in-Unwelcome-clause-steps c = λ policy es w obeys asked.
     lists (forget_task c.args.holder.now.who) c.args.holder.now.token [] es w asked.may asked.knows.1
 
 pub returns-in-Ask-clause-heeds : goal.returns-in-Ask-clause-heeds
-returns-in-Ask-clause-heeds c = λ es w obeys asked other.
+returns-in-Ask-clause-heeds c = λ es w obeys asked.
+    let holding = c.args.holder.now in
     let lists = rw c.in-Ask.is at c.in_ok-next.ensures.ok in
-    let old = c.args.self.now in
-    let version : SnapshotReading.Ask c.in-Ask.next ≡ SnapshotReading.Version = forget_heeds c.versions.result old c.read_on.new.self c.args.holder.now c.args.ask.now c.args.say.now _ lists c.versions.ensures es w asked other in
-    absurd (cc)
+    listing_heeds c.versions.result holding.who.versions c.args.self.now.snapshots c.read_on.new.self c.args.ask.now c.args.say.now (SnapshotReading.Ask c.in-Ask.next) (forget_task holding.who) holding.token es (Step.Ask c.in-Ask.next) (sym c.versions.ensures) lists w asked.may asked.knows.1 tt
 
 pub returns-in-Ok-clause-heeds : goal.returns-in-Ok-clause-heeds
-returns-in-Ok-clause-heeds c = λ es w obeys asked other.
+returns-in-Ok-clause-heeds c = λ es w obeys asked.
+    let holding = c.args.holder.now in
     let lists = rw c.in-All.is at c.in_ok-next.ensures.ok in
-    let old = c.args.self.now in
-    let version : SnapshotReading.All ≡ SnapshotReading.Version = forget_heeds c.versions.result old c.read_on.new.self c.args.holder.now c.args.ask.now c.args.say.now _ lists c.versions.ensures es w asked other in
-    absurd (cc)
+    listing_heeds c.versions.result holding.who.versions c.args.self.now.snapshots c.read_on.new.self c.args.ask.now c.args.say.now SnapshotReading.All (forget_task holding.who) holding.token es c.begin.result (sym c.versions.ensures) lists w asked.may asked.knows.1 tt
 
 pub returns-in-Bad-clause-heeds : goal.returns-in-Bad-clause-heeds
-returns-in-Bad-clause-heeds c = λ es w obeys asked other.
+returns-in-Bad-clause-heeds c = λ es w obeys asked.
+    let holding = c.args.holder.now in
     let lists = rw c.in-Bad.is at c.in_ok-next.ensures.ok in
-    let old = c.args.self.now in
-    let version : SnapshotReading.Bad c.in-Bad.name ≡ SnapshotReading.Version = forget_heeds c.versions.result old c.read_on.new.self c.args.holder.now c.args.ask.now c.args.say.now _ lists c.versions.ensures es w asked other in
-    absurd (cc)
+    listing_heeds c.versions.result holding.who.versions c.args.self.now.snapshots c.read_on.new.self c.args.ask.now c.args.say.now (SnapshotReading.Bad c.in-Bad.name) (forget_task holding.who) holding.token es (Step.Finish (Outcome.Ended (End.BadObject Thing.Snapshot c.in-Bad.name))) (sym c.versions.ensures) lists w asked.may asked.knows.1 refl
+
+pub returns-in-Version-clause-heeds : goal.returns-in-Version-clause-heeds
+returns-in-Version-clause-heeds c = λ es w obeys asked.
+    let holding = c.args.holder.now in
+    let lists = rw c.in-Version.is at c.in_ok-next.ensures.ok in
+    listing_heeds c.versions.result holding.who.versions c.args.self.now.snapshots c.read_on.new.self c.args.ask.now c.args.say.now SnapshotReading.Version (forget_task holding.who) holding.token es (Step.Finish (Outcome.Ended End.Version)) (sym c.versions.ensures) lists w asked.may asked.knows.1 refl
 
 pub returns-in-Senseless-clause-heeds : goal.returns-in-Senseless-clause-heeds
-returns-in-Senseless-clause-heeds c = λ es w obeys asked other.
+returns-in-Senseless-clause-heeds c = λ es w obeys asked.
+    let holding = c.args.holder.now in
     let lists = rw c.in-Senseless.is at c.in_ok-next.ensures.ok in
-    let old = c.args.self.now in
-    let version : SnapshotReading.Senseless ≡ SnapshotReading.Version = forget_heeds c.versions.result old c.read_on.new.self c.args.holder.now c.args.ask.now c.args.say.now _ lists c.versions.ensures es w asked other in
-    absurd (cc)
-
-pub returns-in-Unwelcome-clause-heeds : goal.returns-in-Unwelcome-clause-heeds
-returns-in-Unwelcome-clause-heeds c = λ es w obeys asked other.
-    let lists = rw c.in-Unwelcome.is at c.in_ok-next.ensures.ok in
-    let old = c.args.self.now in
-    let version : SnapshotReading.Unwelcome ≡ SnapshotReading.Version = forget_heeds c.versions.result old c.read_on.new.self c.args.holder.now c.args.ask.now c.args.say.now _ lists c.versions.ensures es w asked other in
-    absurd (cc)
+    listing_heeds c.versions.result holding.who.versions c.args.self.now.snapshots c.read_on.new.self c.args.ask.now c.args.say.now SnapshotReading.Senseless (forget_task holding.who) holding.token es (Step.Finish (Outcome.Ended End.BadReply)) (sym c.versions.ensures) lists w asked.may asked.knows.1 refl

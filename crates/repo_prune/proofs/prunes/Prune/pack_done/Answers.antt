@@ -9,6 +9,7 @@ use Rattle.repo_prune.specs.PruneStates.{KnowsPrune, KnowsStage, known_in}
 use Rattle.repo_prune.specs.declared.prunes.Prune.{Prune}
 use Rattle.repo_prune.specs.declared.prunes.Stage.{Stage}
 use Rattle.repo_prune.proofs.TreeReading.{on_any}
+use Rattle.repo_prune.proofs.Pending.{pack_pending}
 use Rattle.repo_prune.proofs.PruneListing.{may_step}
 use Rattle.repo_prune.proofs.PruneMoves.{repacks_as, repacks_put, received_as, received_on, all_moved, goes_on}
 use Rattle.repo_prune.proofs.prunes.Prune.pack_done.Goals as goal
@@ -26,7 +27,7 @@ returns-in-Done-clause-steps c = IfOk-weaker c.finish_moves.result _ _ (λ step 
     let on = c.in_ok-moved.ensures.on (items_of puts) known.sealed known.moving in
     let done = rw c.in-Done.is at on in
     let gone = goes c.next.new.self refl who (e ∷ es) w (all_moved k m c.next.new.self puts (e ∷ es) repacking c.next.ensures.moves c.next.ensures.target who c.args.token w done) in
-    may_step c.finish_moves.new.self who e es step refl gone.0) c.finish_moves.ensures.steps
+    may_step c.finish_moves.new.self who e es step refl (λ part. absurd part) gone.0) c.finish_moves.ensures.steps
 
 -- where memory was wanting, the pack is being put as before
 pub returns-in_err-moved-clause-knows : goal.returns-in_err-moved-clause-knows
@@ -77,7 +78,14 @@ returns-in_default-2 c = record {
       let on = c.in_ok-moved.ensures.on (items_of puts) known.sealed known.moving in
       let new : Prune = record { snapshots = old.snapshots; catalog = old.catalog; packs = old.packs; stage = Stage.Moving c.next.new.self; target = old.target; alloc = old.alloc } in
       let got = received_on m c.next.new.self m.added c.next.new.self.added e es c.next.ensures.moves c.next.ensures.added refl known.received in
-      may_step new who e es c.move_on.result refl (goes_on k m c.next.new.self puts (e ∷ es) repacking c.next.ensures.moves c.next.ensures.target who c.args.token w got c.in_ok-moved.moved c.move_on.result c.in_default-2.not-Done on c.move_on.ensures.on);
+      may_step new who e es c.move_on.result refl (λ part. absurd part) (goes_on k m c.next.new.self puts (e ∷ es) repacking c.next.ensures.moves c.next.ensures.target who c.args.token w got c.in_ok-moved.moved c.move_on.result c.in_default-2.not-Done on c.move_on.ensures.on);
   short = c.move_on.ensures.short;
+  knows = tt;
+}
+
+pub returns-in_default : goal.returns-in_default
+returns-in_default c = record {
+  steps = λ own name x who es w obeys asked. (let m = pack_pending (known_in c.args.self.now) c.args.self.now.stage own name x es asked.knows in absurd (c.in_default.not-Moving m.0 m.1));
+  short = tt;
   knows = tt;
 }

@@ -49,7 +49,7 @@ returns-in_ok-take_blob-in-Blob-clause-steps c = λ moving pack offset len is wh
     let new : Prune = record { snapshots = old.snapshots; catalog = old.catalog; packs = old.packs; stage = Stage.Moving n; target = old.target; alloc = old.alloc } in
     let more = c.in_ok-take_blob-in-Blob.ensures.added (items_of known.puts) known.sealed known.awaits long in
     let got = received_more m n e es fact c.in-Blob.bytes.now c.take_blob.ensures.moves more known.awaits.asked known.read known.asks c.in-Blob.ensures.0 c.in-Blob.ensures.1 c.in-Blob.ensures.2 known.received in
-    may_step new who e es c.move_on.result refl (goes_on k m n known.puts (e ∷ es) repacking c.take_blob.ensures.moves c.take_blob.ensures.target who c.args.token w got moved c.move_on.result other on c.move_on.ensures.on)
+    may_step new who e es c.move_on.result refl (λ part. (fact, known.wanted, (known.asks, c.in-Blob.bytes.now, c.in-Blob.ensures.0, c.in-Blob.ensures.2, c.in-Blob.ensures.1))) (goes_on k m n known.puts (e ∷ es) repacking c.take_blob.ensures.moves c.take_blob.ensures.target who c.args.token w got moved c.move_on.result other on c.move_on.ensures.on)
 
 pub returns-in-Misnamed-clause-steps : goal.returns-in-Misnamed-clause-steps
 returns-in-Misnamed-clause-steps c = λ moving pack offset len is who es w obeys asked.

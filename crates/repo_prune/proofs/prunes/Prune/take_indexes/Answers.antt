@@ -1,13 +1,19 @@
-use Rattle.std.proofs.Common.{◌∷◌, [], refl, sym, inl}
+use Rattle.std.proofs.Common.{◌∷◌, [], false, refl, sym, inl}
 use Rattle.repo_name.specs.declared.kinds.Kind.{Kind}
+use Rattle.repo_name.specs.declared.kinds.Thing.{Thing}
+use Rattle.repo_session.specs.declared.jobs.Step.{Step}
+use Rattle.repo_session.specs.declared.outcomes.End.{End}
 use Rattle.repo_session.specs.Traces.{Exchange, silent}
+use Rattle.repo_session.specs.Versions.{upto}
 use Rattle.repo_session.proofs.Deleting.{listing_stays}
+use Rattle.repo_session.proofs.Heeding.{heeds_end}
 use Rattle.repo_session.proofs.KindReads.{due_index}
 use Rattle.repo_prune.specs.Pruning.{prune_task}
 use Rattle.repo_prune.specs.PruneStates.{IsListingOf}
 use Rattle.repo_prune.specs.declared.prunes.Prune.{Prune}
 use Rattle.repo_prune.proofs.TreeReading.{on_any}
 use Rattle.repo_prune.proofs.Asides.{target_later}
+use Rattle.repo_prune.proofs.Heeding.{index_heeds}
 use Rattle.repo_prune.proofs.PruneListing.{indexes_known, indexes_back, index_listing, indexes_allowed, listing_untouched, unlisted_same, other_lists, pack_page}
 use Rattle.repo_prune.proofs.prunes.Prune.take_indexes.Goals as goal
 
@@ -24,7 +30,7 @@ returns-in-Ask-clause-steps c = λ token is who es w obeys asked.
     let e : Exchange = silent c.args.ask.now c.args.say.now in
     let h = indexes_known old c.args.ask.now es is asked.knows in
     let reads = rw c.in-Ask.is at c.in_ok-next.ensures.ok in
-    let due = reads (prune_task who) token [] es w asked.may h.indexes in
+    let due = (reads (prune_task who) token [] es w asked.may h.indexes).1 in
     let untouched = listing_untouched Kind.Index e es is h.untouched in
     let snapshots = listing_stays e es old.snapshots.rows.items (other_lists Kind.Index Kind.Snapshot e refl is) h.snapshots in
     let next = c.in-Ask.next in
@@ -34,7 +40,7 @@ returns-in-Ask-clause-steps c = λ token is who es w obeys asked.
       record {
         work = due.work;
         may = due.may;
-        allowed = indexes_allowed (e ∷ es) next old.snapshots.rows.items snapshots (due_index (prune_task who) c.read_on.new.self (e ∷ es) next due) untouched.none_deleted;
+        allowed = indexes_allowed (e ∷ es) next old.snapshots.rows.items snapshots (due_index (prune_task who) c.read_on.new.self (e ∷ es) next due) untouched;
         knows = indexes_back new next (e ∷ es) listing (record {
           untouched = untouched;
           snapshots = snapshots;
@@ -60,8 +66,8 @@ returns-in-All-clause-steps c = λ token is who es w obeys asked.
       pack_page new who (e ∷ es) c.page_ask.result (sym c.page_ask.ensures.ask) due (record {
         untouched = untouched;
         snapshots = listing_stays e es old.snapshots.rows.items (other_lists Kind.Index Kind.Snapshot e refl is) h.snapshots;
-        indexes = all.0;
-        all = all.1;
+        indexes = all.1;
+        all = all.2;
         of_packs = packs.of_packs;
         packs = due.knows;
         target = target_later e es old.target.bytes h.target;
@@ -85,3 +91,27 @@ returns-clause-steps c = λ token is who es w obeys asked.
     let h = indexes_known c.args.self.now c.args.ask.now es is asked.knows in
     let reads = rw c.in-Unwelcome.is at c.in_ok-next.ensures.ok in
     reads (prune_task who) token [] es w asked.may h.indexes
+
+pub returns-in-Ask-clause-heeds : goal.returns-in-Ask-clause-heeds
+returns-in-Ask-clause-heeds c = λ token is who es w obeys asked.
+    let h = indexes_known c.args.self.now c.args.ask.now es is asked.knows in
+    let reads = rw c.in-Ask.is at c.in_ok-next.ensures.ok in
+    index_heeds (upto who.versions) c.args.self.now.catalog c.args.ask.now c.args.say.now es (Step.Ask c.in-Ask.next) h.indexes (reads (prune_task who) token [] es w asked.may h.indexes).0
+
+pub returns-in-All-clause-heeds : goal.returns-in-All-clause-heeds
+returns-in-All-clause-heeds c = λ token is who es w obeys asked.
+    let h = indexes_known c.args.self.now c.args.ask.now es is asked.knows in
+    let reads = rw c.in-All.is at c.in_ok-next.ensures.ok in
+    index_heeds (upto who.versions) c.args.self.now.catalog c.args.ask.now c.args.say.now es (Step.Ask c.page_ask.result) h.indexes (reads (prune_task who) token [] es w asked.may h.indexes).0
+
+pub returns-in-Bad-clause-heeds : goal.returns-in-Bad-clause-heeds
+returns-in-Bad-clause-heeds c = λ token is who es w obeys asked.
+    let h = indexes_known c.args.self.now c.args.ask.now es is asked.knows in
+    let reads = rw c.in-Bad.is at c.in_ok-next.ensures.ok in
+    rw c.end.ensures.end (heeds_end (upto who.versions) false (silent c.args.ask.now c.args.say.now) (End.BadObject Thing.Index c.in-Bad.name) (reads (prune_task who) token [] es w asked.may h.indexes))
+
+pub returns-in-Senseless-clause-heeds : goal.returns-in-Senseless-clause-heeds
+returns-in-Senseless-clause-heeds c = λ token is who es w obeys asked.
+    let h = indexes_known c.args.self.now c.args.ask.now es is asked.knows in
+    let reads = rw c.in-Senseless.is at c.in_ok-next.ensures.ok in
+    rw c.end-in-Senseless.ensures.end (heeds_end (upto who.versions) false (silent c.args.ask.now c.args.say.now) End.BadReply (reads (prune_task who) token [] es w asked.may h.indexes))

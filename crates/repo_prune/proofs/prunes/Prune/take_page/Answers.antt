@@ -10,7 +10,7 @@ use Rattle.repo_prune.proofs.PruneListing.{may_step}
 use Rattle.repo_session.specs.Order.{last_of}
 use Rattle.repo_session.specs.Rolls.{IsRolled}
 use Rattle.repo_session.proofs.Deleting.{listing_stays}
-use Rattle.repo_prune.proofs.PruneListing.{pack_page, packs_listed, catalog_same, other_lists, listing_untouched, gone_on}
+use Rattle.repo_prune.proofs.PruneListing.{pack_page, packs_listed, listed_come, catalog_same, other_lists, listing_untouched, gone_on}
 use Rattle.repo_prune.proofs.prunes.Prune.take_page.Goals as goal
 
 pub returns-in-Ask-clause-steps : goal.returns-in-Ask-clause-steps
@@ -47,7 +47,7 @@ returns-in-Ok-clause-steps c = λ after who es w obeys asked.
     let mid : Prune = record { snapshots = old.snapshots; catalog = old.catalog; packs = packs; stage = old.stage; target = old.target; alloc = old.alloc } in
     let comes = c.in-Ok.ensures.on who (e ∷ es) w read in
     let new = c.go.new.self in
-    may_step new who e es c.go.result refl (gone_on (known_in mid) who c.in-Ok.onward new c.go.result (e ∷ es) c.go.ensures.step c.go.ensures.stage c.go.ensures.known comes)
+    may_step new who e es c.go.result refl (listed_come (e ∷ es) read.1) (gone_on (known_in mid) who c.in-Ok.onward new c.go.result (e ∷ es) c.go.ensures.step c.go.ensures.stage c.go.ensures.known comes)
 
 pub returns-in-Senseless-clause-steps : goal.returns-in-Senseless-clause-steps
 returns-in-Senseless-clause-steps c = λ after who es w obeys asked.

@@ -1,16 +1,17 @@
-use Rattle.std.proofs.Common.{◌≡◌, ◌∷◌, [], refl, sym, subst, inl}
+use Rattle.std.proofs.Common.{◌∷◌, [], refl, sym, subst, inl}
 use Rattle.repo_name.specs.declared.kinds.Kind.{Kind}
 use Rattle.repo_name.specs.declared.kinds.Thing.{Thing}
 use Rattle.repo_session.specs.Ends.{IsBad, IsOfOtherVersion, IsSenseless}
 use Rattle.repo_session.specs.Traces.{Exchange, silent}
 use Rattle.repo_session.proofs.KindReads.{due_index, due_snapshot}
 use Rattle.repo_session.specs.Versions.{upto}
+use Rattle.repo_session.specs.declared.jobs.Step.{Step}
 use Rattle.repo_session.specs.declared.snapshot_rolls.SnapshotReading.{SnapshotReading}
 use Rattle.repo_prune.specs.Pruning.{prune_task}
 use Rattle.repo_prune.specs.PruneStates.{IsListingOf}
 use Rattle.repo_prune.specs.declared.prunes.Prune.{Prune}
 use Rattle.repo_prune.proofs.Asides.{target_later}
-use Rattle.repo_prune.proofs.Heeding.{prune_heeds}
+use Rattle.repo_prune.proofs.Heeding.{listing_heeds}
 use Rattle.repo_prune.proofs.PruneListing.{snapshots_known, snapshots_back, indexes_back, index_listing, roll_listing, indexes_allowed, snapshots_allowed, listing_untouched, unlisted_same, catalog_same}
 use Rattle.repo_prune.proofs.TreeReading.{on_any}
 use Rattle.repo_prune.proofs.prunes.Prune.take_snapshots.Goals as goal
@@ -44,7 +45,7 @@ returns-in-Ask-clause-steps c = λ token is who knows es w obeys asked.
       record {
         work = due.work;
         may = due.may;
-        allowed = snapshots_allowed (e ∷ es) next (due_snapshot (prune_task who) c.read_on.new.self (e ∷ es) next due) untouched.none_deleted;
+        allowed = snapshots_allowed (e ∷ es) next (due_snapshot (prune_task who) c.read_on.new.self (e ∷ es) next due) untouched;
         knows = snapshots_back new next (e ∷ es) listing (record {
           untouched = untouched;
           snapshots = due.knows;
@@ -73,7 +74,7 @@ returns-in-All-clause-steps c = λ token is who knows es w obeys asked.
       record {
         work = due.work;
         may = due.may;
-        allowed = indexes_allowed (e ∷ es) next new.snapshots.rows.items listing (due_index (prune_task who) old.catalog (e ∷ es) next due) untouched.none_deleted;
+        allowed = indexes_allowed (e ∷ es) next new.snapshots.rows.items listing (due_index (prune_task who) old.catalog (e ∷ es) next due) untouched;
         knows = indexes_back new next (e ∷ es) first (record {
           untouched = untouched;
           snapshots = listing;
@@ -113,36 +114,36 @@ returns-in-Unwelcome-clause-steps c = λ token is who knows es w obeys asked.
     lists (prune_task who) token [] es w asked.may h.snapshots
 
 pub returns-in-Ask-clause-heeds : goal.returns-in-Ask-clause-heeds
-returns-in-Ask-clause-heeds c = λ token is who same es w obeys asked other.
-    let lists = rw c.in-Ask.is at c.in_ok-next.ensures.ok in
+returns-in-Ask-clause-heeds c = λ token is who same es w obeys asked.
     let old = c.args.self.now in
-    let version : SnapshotReading.Ask c.in-Ask.next ≡ SnapshotReading.Version = prune_heeds c.args.versions old c.read_on.new.self token c.args.ask.now c.args.say.now _ lists is who same es w asked other in
-    absurd (cc)
+    let h = snapshots_known old c.args.ask.now es is asked.knows in
+    let lists = rw c.in-Ask.is at c.in_ok-next.ensures.ok in
+    listing_heeds c.args.versions who.versions old.snapshots c.read_on.new.self c.args.ask.now c.args.say.now (SnapshotReading.Ask c.in-Ask.next) (prune_task who) token es (Step.Ask c.in-Ask.next) same lists w asked.may h.snapshots tt
 
 pub returns-in-All-clause-heeds : goal.returns-in-All-clause-heeds
-returns-in-All-clause-heeds c = λ token is who same es w obeys asked other.
-    let lists = rw c.in-All.is at c.in_ok-next.ensures.ok in
+returns-in-All-clause-heeds c = λ token is who same es w obeys asked.
     let old = c.args.self.now in
-    let version : SnapshotReading.All ≡ SnapshotReading.Version = prune_heeds c.args.versions old c.read_on.new.self token c.args.ask.now c.args.say.now _ lists is who same es w asked other in
-    absurd (cc)
+    let h = snapshots_known old c.args.ask.now es is asked.knows in
+    let lists = rw c.in-All.is at c.in_ok-next.ensures.ok in
+    listing_heeds c.args.versions who.versions old.snapshots c.read_on.new.self c.args.ask.now c.args.say.now SnapshotReading.All (prune_task who) token es (Step.Ask c.page_ask.result) same lists w asked.may h.snapshots tt
 
 pub returns-in-Bad-clause-heeds : goal.returns-in-Bad-clause-heeds
-returns-in-Bad-clause-heeds c = λ token is who same es w obeys asked other.
-    let lists = rw c.in-Bad.is at c.in_ok-next.ensures.ok in
+returns-in-Bad-clause-heeds c = λ token is who same es w obeys asked.
     let old = c.args.self.now in
-    let version : SnapshotReading.Bad c.in-Bad.name ≡ SnapshotReading.Version = prune_heeds c.args.versions old c.read_on.new.self token c.args.ask.now c.args.say.now _ lists is who same es w asked other in
-    absurd (cc)
+    let h = snapshots_known old c.args.ask.now es is asked.knows in
+    let lists = rw c.in-Bad.is at c.in_ok-next.ensures.ok in
+    listing_heeds c.args.versions who.versions old.snapshots c.read_on.new.self c.args.ask.now c.args.say.now (SnapshotReading.Bad c.in-Bad.name) (prune_task who) token es c.end.result same lists w asked.may h.snapshots c.end.ensures.end
+
+pub returns-in-Version-clause-heeds : goal.returns-in-Version-clause-heeds
+returns-in-Version-clause-heeds c = λ token is who same es w obeys asked.
+    let old = c.args.self.now in
+    let h = snapshots_known old c.args.ask.now es is asked.knows in
+    let lists = rw c.in-Version.is at c.in_ok-next.ensures.ok in
+    listing_heeds c.args.versions who.versions old.snapshots c.read_on.new.self c.args.ask.now c.args.say.now SnapshotReading.Version (prune_task who) token es c.end-in-Version.result same lists w asked.may h.snapshots c.end-in-Version.ensures.end
 
 pub returns-in-Senseless-clause-heeds : goal.returns-in-Senseless-clause-heeds
-returns-in-Senseless-clause-heeds c = λ token is who same es w obeys asked other.
+returns-in-Senseless-clause-heeds c = λ token is who same es w obeys asked.
+    let old = c.args.self.now in
+    let h = snapshots_known old c.args.ask.now es is asked.knows in
     let lists = rw c.in-Senseless.is at c.in_ok-next.ensures.ok in
-    let old = c.args.self.now in
-    let version : SnapshotReading.Senseless ≡ SnapshotReading.Version = prune_heeds c.args.versions old c.read_on.new.self token c.args.ask.now c.args.say.now _ lists is who same es w asked other in
-    absurd (cc)
-
-pub returns-in-Unwelcome-clause-heeds : goal.returns-in-Unwelcome-clause-heeds
-returns-in-Unwelcome-clause-heeds c = λ token is who same es w obeys asked other.
-    let lists = rw c.in-Unwelcome.is at c.in_ok-next.ensures.ok in
-    let old = c.args.self.now in
-    let version : SnapshotReading.Unwelcome ≡ SnapshotReading.Version = prune_heeds c.args.versions old c.read_on.new.self token c.args.ask.now c.args.say.now _ lists is who same es w asked other in
-    absurd (cc)
+    listing_heeds c.args.versions who.versions old.snapshots c.read_on.new.self c.args.ask.now c.args.say.now SnapshotReading.Senseless (prune_task who) token es c.end-in-Senseless.result same lists w asked.may h.snapshots c.end-in-Senseless.ensures.end

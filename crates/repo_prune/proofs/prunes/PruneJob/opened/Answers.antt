@@ -32,7 +32,7 @@ returns-clause-begins c = λ text fresh reads known.
     record {
       work = due.work;
       may = due.may;
-      allowed = snapshots_allowed es next (due_snapshot task old.snapshots es next due) untouched.none_deleted;
+      allowed = snapshots_allowed es next (due_snapshot task old.snapshots es next due) untouched;
       knows = snapshots_back new next es listing (record {
         untouched = untouched;
         snapshots = due.knows;

@@ -1,4 +1,4 @@
-use Rattle.std.proofs.Common.{◌∷◌, [], List, refl, sym, subst, inl}
+use Rattle.std.proofs.Common.{false, ◌∷◌, [], List, refl, sym, subst, inl}
 use Rattle.repo_name.specs.declared.names.Name.{Name}
 use Rattle.repo_name.specs.declared.kinds.Thing.{Thing}
 use Rattle.repo_tree.specs.declared.snapshots.Snapshot.{Snapshot}
@@ -9,7 +9,8 @@ use Rattle.repo_session.specs.Traces.{Exchange, silent}
 use Rattle.repo_session.specs.Versions.{upto}
 use Rattle.repo_session.proofs.KindReads.{due_snapshot}
 use Rattle.repo_restore.specs.Listing.{list_rule}
-use Rattle.repo_restore.proofs.Heeding.{list_other}
+use Rattle.repo_session.proofs.Heeding.{heeds_end, welcome_follows}
+use Rattle.repo_session.specs.declared.outcomes.End.{End}
 use Rattle.repo_restore.proofs.listings.SnapshotListJob.reply.Goals as goal
 
 pub returns-in-Ask-clause-steps : goal.returns-in-Ask-clause-steps
@@ -54,32 +55,44 @@ returns-in-Unwelcome-clause-steps c = λ es w obeys asked.
     let lists = rw c.in-Unwelcome.is at c.in_ok-next.ensures.ok in
     lists (task_under list_rule holding.who) holding.token [] es w asked.may asked.knows
 
+-- ---- on which replies it ends at once
+
 pub returns-in-Ask-clause-heeds : goal.returns-in-Ask-clause-heeds
-returns-in-Ask-clause-heeds c = λ es w obeys asked other.
-    let is = list_other c.args.holder.now c.args.self.now c.read_on.new.self c.args.ask.now c.args.say.now c.versions.result _ c.versions.ensures c.in_ok-next.ensures.ok es w asked other in
-    let came = c.in-Ask.is in
-    absurd (cc)
+returns-in-Ask-clause-heeds c = λ es w obeys asked.
+    let who = c.args.holder.now.who in
+    let e : Exchange = silent c.args.ask.now c.args.say.now in
+    let lists = (rw c.in-Ask.is at c.in_ok-next.ensures.ok) (task_under list_rule who) c.args.holder.now.token [] es w asked.may asked.knows in
+    let understood : ¬ IsOfOtherVersion (upto who.versions) e.ask e.say = subst (λ versions. ¬ IsOfOtherVersion (upto versions) e.ask e.say) c.versions.ensures lists.0.0 in
+    λ ends. absurd (welcome_follows (upto who.versions) false e understood lists.0.1 ends)
 
 pub returns-in-All-clause-heeds : goal.returns-in-All-clause-heeds
-returns-in-All-clause-heeds c = λ es w obeys asked other.
-    let is = list_other c.args.holder.now c.args.self.now c.read_on.new.self c.args.ask.now c.args.say.now c.versions.result _ c.versions.ensures c.in_ok-next.ensures.ok es w asked other in
-    let came = c.in-All.is in
-    absurd (cc)
+returns-in-All-clause-heeds c = λ es w obeys asked.
+    let who = c.args.holder.now.who in
+    let e : Exchange = silent c.args.ask.now c.args.say.now in
+    let lists = (rw c.in-All.is at c.in_ok-next.ensures.ok) (task_under list_rule who) c.args.holder.now.token [] es w asked.may asked.knows in
+    let understood : ¬ IsOfOtherVersion (upto who.versions) e.ask e.say = subst (λ versions. ¬ IsOfOtherVersion (upto versions) e.ask e.say) c.versions.ensures lists.0.0 in
+    λ ends. absurd (welcome_follows (upto who.versions) false e understood lists.0.1 ends)
 
 pub returns-in-Bad-clause-heeds : goal.returns-in-Bad-clause-heeds
-returns-in-Bad-clause-heeds c = λ es w obeys asked other.
-    let is = list_other c.args.holder.now c.args.self.now c.read_on.new.self c.args.ask.now c.args.say.now c.versions.result _ c.versions.ensures c.in_ok-next.ensures.ok es w asked other in
-    let came = c.in-Bad.is in
-    absurd (cc)
+returns-in-Bad-clause-heeds c = λ es w obeys asked.
+    let who = c.args.holder.now.who in
+    let e : Exchange = silent c.args.ask.now c.args.say.now in
+    let lists = (rw c.in-Bad.is at c.in_ok-next.ensures.ok) (task_under list_rule who) c.args.holder.now.token [] es w asked.may asked.knows in
+    heeds_end (upto who.versions) false e (End.BadObject Thing.Snapshot c.in-Bad.name) (subst (λ versions. IsBad (upto versions) e.ask e.say Thing.Snapshot c.in-Bad.name) c.versions.ensures lists)
+
+pub returns-in-Version-clause-heeds : goal.returns-in-Version-clause-heeds
+returns-in-Version-clause-heeds c = λ es w obeys asked.
+    let who = c.args.holder.now.who in
+    let e : Exchange = silent c.args.ask.now c.args.say.now in
+    let lists = (rw c.in-Version.is at c.in_ok-next.ensures.ok) (task_under list_rule who) c.args.holder.now.token [] es w asked.may asked.knows in
+    heeds_end (upto who.versions) false e End.Version (subst (λ versions. IsOfOtherVersion (upto versions) e.ask e.say) c.versions.ensures lists)
 
 pub returns-in-Senseless-clause-heeds : goal.returns-in-Senseless-clause-heeds
-returns-in-Senseless-clause-heeds c = λ es w obeys asked other.
-    let is = list_other c.args.holder.now c.args.self.now c.read_on.new.self c.args.ask.now c.args.say.now c.versions.result _ c.versions.ensures c.in_ok-next.ensures.ok es w asked other in
-    let came = c.in-Senseless.is in
-    absurd (cc)
+returns-in-Senseless-clause-heeds c = λ es w obeys asked.
+    let who = c.args.holder.now.who in
+    let e : Exchange = silent c.args.ask.now c.args.say.now in
+    let lists = (rw c.in-Senseless.is at c.in_ok-next.ensures.ok) (task_under list_rule who) c.args.holder.now.token [] es w asked.may asked.knows in
+    heeds_end (upto who.versions) false e End.BadReply (subst (λ versions. IsSenseless (upto versions) e.ask e.say) c.versions.ensures lists)
 
 pub returns-in-Unwelcome-clause-heeds : goal.returns-in-Unwelcome-clause-heeds
-returns-in-Unwelcome-clause-heeds c = λ es w obeys asked other.
-    let is = list_other c.args.holder.now c.args.self.now c.read_on.new.self c.args.ask.now c.args.say.now c.versions.result _ c.versions.ensures c.in_ok-next.ensures.ok es w asked other in
-    let came = c.in-Unwelcome.is in
-    absurd (cc)
+returns-in-Unwelcome-clause-heeds c = λ es w obeys asked ends. tt

@@ -23,4 +23,4 @@ pub returns-in-Ended-clause-steps : goal.returns-in-Ended-clause-steps
 returns-in-Ended-clause-steps c = λ who token e es w gives next.
     let j = c.args.self.now in
     let ends = rw c.in-Ended.is at next.turns in
-    (gives, walk_concludes (upto who.versions) j.catalog j.snapshot c.args.version next.root (e ∷ es) c.in-Ended.end next.indexes next.all next.found ends)
+    (gives, walk_concludes (upto who.versions) j.catalog j.snapshot c.args.version next.root (e ∷ es) c.in-Ended.end next.indexes next.all next.found ends next.came)

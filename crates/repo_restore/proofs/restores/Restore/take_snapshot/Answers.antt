@@ -7,19 +7,18 @@ use Rattle.repo_tree.specs.SnapshotText.{IsSnapshotText, SnapshotFault}
 use Rattle.repo_tree.specs.declared.faults.TextError.{TextError}
 use Rattle.repo_session.specs.Ends.{CausedBy, IsOfOtherVersion, IsUnwelcome}
 use Rattle.repo_session.specs.Jobs.{task_under}
-use Rattle.repo_session.specs.declared.jobs.Step.{Step}
-use Rattle.repo_session.specs.declared.outcomes.Outcome.{Outcome}
 use Rattle.repo_session.specs.Traces.{Exchange, giving}
 use Rattle.repo_session.specs.Versions.{upto}
 use Rattle.repo_session.proofs.Causes.{snapshot_faultless}
 use Rattle.repo_session.proofs.Receiving.{unwelcome_get, bad_object}
-use Rattle.repo_session.proofs.Understanding.{unwelcome_understood}
+use Rattle.repo_session.proofs.Heeding.{bytes_wanted, heeds_end, welcome_follows}
+use Rattle.repo_name.specs.declared.kinds.Thing.{Thing}
+use Rattle.repo_session.specs.declared.outcomes.End.{End}
 use Rattle.repo_restore.specs.declared.restores.Stage.{Stage}
 use Rattle.repo_session.specs.Trees.{HasRoot}
 use Rattle.repo_restore.specs.Restoring.{restore_rule}
 use Rattle.repo_restore.specs.RestoreStates.{KnowsAtStage}
 use Rattle.repo_restore.proofs.Advancing.{before_on, reads_allowed, snapshot_on}
-use Rattle.repo_restore.proofs.Heeding.{snapshot_other}
 use Rattle.repo_session.proofs.KindReads.{due_index}
 use Rattle.repo_restore.proofs.restores.Restore.take_snapshot.Goals as goal
 
@@ -84,45 +83,58 @@ returns-in_ok-end-in-Err-clause-ok c = λ ask es w obeys asked.
     (inl known.3.none_given, inl (inl (subst E (sym known.0) (subst D (sym c.in-Bytes.is) cause))))
 
 pub returns-in_default-clause-heeds : goal.returns-in_default-clause-heeds
-returns-in_default-clause-heeds c = λ other.
-    let n = c.args.self.now.snapshot in
-    absurd (unwelcome_understood (upto c.args.holder.now.who.versions) (Ask.Get Kind.Snapshot n) c.args.say.now (unwelcome_get Kind.Snapshot n c.args.say.now c.in_default.not-Bytes) other)
+returns-in_default-clause-heeds c = λ ask es w obeys asked ends. tt
 
 pub returns-then-not-is_named-clause-heeds : goal.returns-then-not-is_named-clause-heeds
-returns-then-not-is_named-clause-heeds c = λ other.
-    let n = c.args.self.now.snapshot in
-    let O : Say → Type 0 = λ say. IsOfOtherVersion (upto c.args.holder.now.who.versions) (Ask.Get Kind.Snapshot n) say in
-    let N : List ℕ → Type 0 = λ y. naming.name y ≡ n in
-    let named = subst N (sym c.as_slice-bytes.ensures) (subst O c.in-Bytes.is other).0 in
-    let yes = c.is_named.ensures.1 named in
-    let no = c.if-not-is_named.true in
-    absurd (cc)
+returns-then-not-is_named-clause-heeds c = λ ask es w obeys asked.
+    let j = c.args.self.now in
+    let n = j.snapshot in
+    let known = upto c.args.holder.now.who.versions in
+    let e : Exchange = giving ask c.args.say.now j.given.items in
+    let S : Stage → Type 0 = λ stage. KnowsAtStage j stage e.ask es in
+    let asks = (subst S c.requires asked.knows).0 in
+    let N : List ℕ → Type 0 = λ y. naming.name y ≢ n in
+    let other : naming.name c.as_slice-bytes.result.now ≢ n = λ h. (let yes = c.is_named.ensures.1 h in let no = c.if-not-is_named.true in absurd (cc)) in
+    heeds_end known false e (End.BadObject Thing.Snapshot n) (bad_object known Kind.Snapshot ask e.say n n c.in-Bytes.bytes asks refl c.in-Bytes.is (inl (subst N c.as_slice-bytes.ensures other)))
 
 pub returns-in-Ok-clause-heeds : goal.returns-in-Ok-clause-heeds
-returns-in-Ok-clause-heeds c = λ other.
+returns-in-Ok-clause-heeds c = λ ask es w obeys asked.
+    let j = c.args.self.now in
     let who = c.args.holder.now.who in
     let known = upto who.versions in
+    let e : Exchange = giving ask c.args.say.now j.given.items in
+    let S : Stage → Type 0 = λ stage. KnowsAtStage j stage e.ask es in
+    let asks = (subst S c.requires asked.knows).0 in
     let read = c.in-Ok.ensures.ok in
     let x = c.as_slice-bytes.result.now in
     let bound : c.greatest.result ≡ known = c.greatest.ensures.greatest ∙ ap (λ versions. upto versions) c.versions.ensures in
     let within = subst (λ (v : ℕ). c.in-Ok.snapshot.version ≤ v) bound read.1 in
-    let O : Say → Type 0 = λ say. IsOfOtherVersion known (Ask.Get Kind.Snapshot c.args.self.now.snapshot) say in
+    let A : Ask → Type 0 = λ a. IsOfOtherVersion known a e.say in
+    let O : Say → Type 0 = λ say. IsOfOtherVersion known (Ask.Get Kind.Snapshot j.snapshot) say in
     let F : List ℕ → Type 0 = λ y. SnapshotFault known y TextError.Version in
-    let fault = subst F (sym c.as_slice-bytes.ensures) (subst O c.in-Bytes.is other).1 in
+    let understood : ¬ IsOfOtherVersion known ask e.say = λ other. (
+    let fault = subst F (sym c.as_slice-bytes.ensures) (subst O c.in-Bytes.is (subst A asks other)).1 in
     let q : TextError.Version ≡ TextError.Memory = snapshot_faultless known x c.in-Ok.snapshot TextError.Version read.0 within fault in
-    absurd (cc)
+    absurd (cc)) in
+    let U : Ask → Type 0 = λ a. ¬ IsUnwelcome a e.say in
+    λ ends. absurd (welcome_follows known false e understood (subst U (sym asks) (bytes_wanted Kind.Snapshot j.snapshot e.say c.in-Bytes.bytes c.in-Bytes.is)) ends)
 
 pub returns-in_ok-end-in-Err-clause-heeds : goal.returns-in_ok-end-in-Err-clause-heeds
-returns-in_ok-end-in-Err-clause-heeds c = λ other.
+returns-in_ok-end-in-Err-clause-heeds c = λ ask es w obeys asked.
+    let j = c.args.self.now in
+    let n = j.snapshot in
     let who = c.args.holder.now.who in
     let known = upto who.versions in
-    let n = c.args.self.now.snapshot in
+    let e : Exchange = giving ask c.args.say.now j.given.items in
+    let S : Stage → Type 0 = λ stage. KnowsAtStage j stage e.ask es in
+    let asks = (subst S c.requires asked.knows).0 in
     let end = c.in_ok-end-in-Err.end in
-    let x = c.as_slice-bytes.result.now in
+    let C : List ℕ → Type 0 = λ y. CausedBy known (Ask.Get Kind.Snapshot n) (Say.Bytes y) end in
+    let D : Say → Type 0 = λ y. CausedBy known (Ask.Get Kind.Snapshot n) y end in
+    let E : Ask → Type 0 = λ a. CausedBy known a e.say end in
     let named = c.is_named.ensures.0 c.if-not-is_named.false in
+    let x = c.as_slice-bytes.result.now in
     let bound : c.greatest.result ≡ known = c.greatest.ensures.greatest ∙ ap (λ versions. upto versions) c.versions.ensures in
     let fault = subst (λ (v : ℕ). SnapshotFault v x c.in-Err.error) bound c.in-Err.ensures.fault in
-    let O : Say → Type 0 = λ say. IsOfOtherVersion known (Ask.Get Kind.Snapshot n) say in
-    let B : List ℕ → Type 0 = λ y. IsOfOtherVersion known (Ask.Get Kind.Snapshot n) (Say.Bytes y) in
-    let of : B x = subst B (sym c.as_slice-bytes.ensures) (subst O c.in-Bytes.is other) in
-    ap (λ e. Step.Finish (Outcome.Ended e)) (snapshot_other known n x end (c.in_ok-end-in-Err.ensures who.versions x named fault) of)
+    let cause = subst C c.as_slice-bytes.ensures (c.in_ok-end-in-Err.ensures who.versions x named fault) in
+    heeds_end known false e end (subst E (sym asks) (subst D (sym c.in-Bytes.is) cause))

@@ -4,13 +4,12 @@ use Rattle.repo_wire.specs.declared.messages.Code.{Code}
 use Rattle.repo_wire.specs.declared.messages.Say.{Say}
 use Rattle.repo_tree.specs.ConfigText.{IsConfigText, ConfigFault}
 use Rattle.repo_session.specs.declared.outcomes.End.{End}
-use Rattle.repo_session.specs.Ends.{CausedBy, IsOfOtherVersion, IsUnwelcome}
+use Rattle.repo_session.specs.Ends.{CausedBy}
 use Rattle.repo_session.specs.Jobs.{known_under}
 use Rattle.repo_session.specs.Traces.{Trace, silent}
 use Rattle.repo_session.specs.Versions.{shared}
 use Rattle.repo_session.proofs.Holding.{unwelcome_config}
 use Rattle.repo_session.proofs.Sessioning.{begins, config_left, session_as}
-use Rattle.repo_session.proofs.Understanding.{config_other, unwelcome_understood}
 use Rattle.repo_session.proofs.sessions.Session.take_config.Goals as goal
 
 bytes_live : (x : List ℕ) (say : Say) (end : End) → say ≡ Say.Bytes x → say ≡ Say.Refused Code.Dead → end ≡ End.Fenced
@@ -27,7 +26,7 @@ returns-in_default g c = record {
       let known = known_under (g.J.Job.rule h) s.head.holder.who in
       let caused : CausedBy known r.ask say c.args.end = subst (λ a. CausedBy known a say c.args.end) (sym q) (ends.1 (unwelcome_config say c.in_default.not-Bytes) known) in
       session_as g.J.Job.rule h h s.head.holder new.holder s.head.lock new.lock (g.J.Job.fresh s.job) (g.J.Job.knows s.job) (g.J.Job.wants s.job) new.line fs refl c.leave.ensures.kept.holder c.leave.ensures.kept.lock
-      (config_left (g.J.Job.rule h) s.head.holder s.head.lock (g.J.Job.fresh s.job) (g.J.Job.knows s.job) (g.J.Job.wants s.job) s.head.line r es p f say (g.J.Job.fresh s.job) (g.J.Job.knows s.job) (g.J.Job.wants s.job) c.args.end s.head new refl refl q caused ends.0 (λ other. absurd (unwelcome_understood known r.ask say (subst (λ a. IsUnwelcome a say) (sym q) (unwelcome_config say c.in_default.not-Bytes)) other)) c.leave.ensures.leaves);
+      (config_left (g.J.Job.rule h) s.head.holder s.head.lock (g.J.Job.fresh s.job) (g.J.Job.knows s.job) (g.J.Job.wants s.job) s.head.line r es p f say (g.J.Job.fresh s.job) (g.J.Job.knows s.job) (g.J.Job.wants s.job) c.args.end s.head new refl refl q caused ends.0 c.leave.ensures.leaves);
   err = tt;
   calm = λ code p. refl;
   handed = refl;
@@ -65,8 +64,6 @@ returns-in_ok-end-in-Err-clause-taken g c = λ r es p q ends f.
     let F : List ℕ → Type 0 = λ x. ConfigFault known x c.in-Err.error in
     let fault : ConfigFault known c.as_slice.result.now c.in-Err.error = search rules in
     let cause : CausedBy known Ask.Config say end = subst (λ z. CausedBy known Ask.Config z end) (sym c.in-Bytes.is) (c.in_ok-end-in-Err.ensures versions text (subst F c.as_slice.ensures fault)) in
-    let heeds : IsOfOtherVersion known r.ask say → end ≡ End.Version = λ other.
-    config_other known text end (subst (λ z. CausedBy known Ask.Config z end) c.in-Bytes.is cause) (subst (λ z. IsOfOtherVersion known Ask.Config z) c.in-Bytes.is (subst (λ a. IsOfOtherVersion known a say) q other)) in
     session_as g.J.Job.rule h h s.head.holder new.holder s.head.lock new.lock (g.J.Job.fresh s.job) (g.J.Job.knows s.job) (g.J.Job.wants s.job) new.line fs refl c.leave-in-Err.ensures.kept.holder c.leave-in-Err.ensures.kept.lock
     (config_left (g.J.Job.rule h) s.head.holder s.head.lock (g.J.Job.fresh s.job) (g.J.Job.knows s.job) (g.J.Job.wants s.job) s.head.line r es p f say (g.J.Job.fresh s.job) (g.J.Job.knows s.job) (g.J.Job.wants s.job) end s.head new refl refl q
-    (subst (λ a. CausedBy known a say end) (sym q) cause) (bytes_live text say end c.in-Bytes.is) heeds c.leave-in-Err.ensures.leaves)
+    (subst (λ a. CausedBy known a say end) (sym q) cause) (bytes_live text say end c.in-Bytes.is) c.leave-in-Err.ensures.leaves)
