@@ -4,7 +4,10 @@ ghost use Rattle.std.specs.Prelude.{◌≡◌, ◌≢◌, ◌<◌, true, length,
 ghost use Rattle.repo_hall.specs.Guests.{IsNewGuest};
 ghost use Rattle.repo_hall.specs.Halls.{HallLeads, HallLeavesStore};
 ghost use Rattle.repo_hall.specs.declared.guests.Guest.{Guest};
+ghost use Rattle.repo_many.specs.Endings.{GuestIs, IsDone, IsFreed, IsOver};
 ghost use Rattle.repo_many.specs.declared.places.Place.{Place};
+ghost use Rattle.repo_many.specs.declared.steps.Progress.{Progress};
+ghost use Rattle.repo_store.specs.declared.serving.ServeError.{ServeError};
 ghost use Rattle.repo_many.specs.declared.times.Served.{Served};
 
 use crate::large_frames::Room;
@@ -69,6 +72,7 @@ fn turn_at<T: Read + Write + Drop, S: Shelf>(
     timing: Timing,
 ) -> Progress
     requires { place < length hall.old.guests.items }
+    ensures end { result ≡ Progress.AtEnd → GuestIs IsDone hall.new.guests.items place }
     ensures leads { S.honest shelf.old → HallLeads hall.old (S.store shelf.old) (S.failed shelf.old) hall.new (S.store shelf.new) (S.failed shelf.new) }
     ensures honest { S.honest shelf.old → S.honest shelf.new }
     ensures places { length hall.new.guests.items ≡ length hall.old.guests.items }
@@ -113,8 +117,7 @@ fn close_at<T: Drop, F: Write>(
     requires { place < length hall.old.guests.items }
     ensures leaves { HallLeavesStore hall.old hall.new }
     ensures places { length hall.new.guests.items ≡ length hall.old.guests.items }
-    ensures renewed { slice_get places.new.items place ≡ Some Place.Free
-        → (g : Guest) → slice_get hall.new.guests.items place ≡ Some g → IsNewGuest g hall.old.entered }
+    ensures renewed { slice_get places.new.items place ≡ Some Place.Free → GuestIs (λ g. IsNewGuest g hall.old.entered) hall.new.guests.items place }
     ensures closed { (socket : _) → slice_get places.new.items place ≢ Some (Place.Taken socket) }
     ensures silent { tally.new.served ≡ Served.Well → (tally.old.served ≡ Served.Well) × (faults.new ≡ faults.old) }
 {
@@ -126,8 +129,38 @@ fn close_at<T: Drop, F: Write>(
     }
 }
 
-/// The turn of a place. Where its connection ends, the place is free for another; where it ends by an error
-/// the error's text is told.
+/// What becomes of a place by its connection's turn. Where the connection ends, the place is free for another; where it ends by an
+/// error the error's text is told.
+fn settle<T: Drop, F: Write>(
+    hall: &mut Hall,
+    places: &mut Vec<Place<T>>,
+    place: usize,
+    progress: Progress,
+    tally: &mut Tally,
+    faults: &mut F,
+)
+    requires { place < length hall.old.guests.items }
+    ensures leaves { HallLeavesStore hall.old hall.new }
+    ensures places { length hall.new.guests.items ≡ length hall.old.guests.items }
+    ensures freed { IsFreed place places.old.items places.new.items hall.new.guests.items }
+    ensures closed { IsOver progress → (socket : _) → slice_get places.new.items place ≢ Some (Place.Taken socket) }
+    ensures stays { ¬ IsOver progress → (places.new ≡ places.old) × (hall.new ≡ hall.old) × (faults.new ≡ faults.old) }
+    ensures failed { (error : ServeError) → progress ≡ Progress.Failed error → tally.new.served ≡ Served.WithErrors }
+    ensures silent { tally.new.served ≡ Served.Well → (tally.old.served ≡ Served.Well) × (faults.new ≡ faults.old) }
+{
+    match progress {
+        Progress::Still => {}
+        Progress::Barred => {}
+        Progress::Moved => tally.moved = true,
+        Progress::AtEnd => close_at(hall, places, place, tally, faults),
+        Progress::Failed(error) => {
+            tally.tell(faults, error);
+            close_at(hall, places, place, tally, faults)
+        }
+    }
+}
+
+/// The turn of a place, and what becomes of the place by it.
 pub fn serve_place<T: Read + Write + Drop, S: Shelf, F: Write>(
     hall: &mut Hall,
     places: &mut Vec<Place<T>>,
@@ -145,14 +178,6 @@ pub fn serve_place<T: Read + Write + Drop, S: Shelf, F: Write>(
     ensures places { length hall.new.guests.items ≡ length hall.old.guests.items }
     ensures silent { tally.new.served ≡ Served.Well → (tally.old.served ≡ Served.Well) × (faults.new ≡ faults.old) }
 {
-    match turn_at(hall, places, place, piece, shelf, room, timing) {
-        Progress::Still => {}
-        Progress::Barred => {}
-        Progress::Moved => tally.moved = true,
-        Progress::AtEnd => close_at(hall, places, place, tally, faults),
-        Progress::Failed(error) => {
-            tally.tell(faults, error);
-            close_at(hall, places, place, tally, faults)
-        }
-    }
+    let progress = turn_at(hall, places, place, piece, shelf, room, timing);
+    settle(hall, places, place, progress, tally, faults)
 }

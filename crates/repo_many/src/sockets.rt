@@ -1,9 +1,11 @@
 //! One connection, with its socket.
 
-ghost use Rattle.std.specs.Prelude.{◌≡◌, ◌<◌, length, slice_get, Some};
+ghost use Rattle.std.specs.Prelude.{◌≡◌, ◌≢◌, ◌<◌, length, slice_get, Some};
 ghost use Rattle.repo_hall.specs.Guests.{IsAwaited};
 ghost use Rattle.repo_hall.specs.Halls.{HallLeads, HallLeavesStore};
 ghost use Rattle.repo_hall.specs.declared.guests.Guest.{Guest};
+ghost use Rattle.repo_many.specs.Endings.{GuestIs, IsDone};
+ghost use Rattle.repo_many.specs.declared.steps.Progress.{Progress};
 
 use crate::large_frames::{HEAD, Room};
 use crate::steps::{Progress, give, reply, take};
@@ -74,6 +76,7 @@ impl<T: Read + Write + Drop> Socket<T> {
     fn take_more(&mut self, hall: &mut Hall, place: usize, piece: &mut [u8], room: Room) -> Progress
         requires place { place < length hall.old.guests.items }
         requires awaited { (g : Guest) → slice_get hall.old.guests.items place ≡ Some g → IsAwaited g }
+        ensures end { result ≡ Progress.AtEnd → GuestIs IsDone hall.new.guests.items place }
         ensures leaves { HallLeavesStore hall.old hall.new }
         ensures places { length hall.new.guests.items ≡ length hall.old.guests.items }
     {
@@ -111,6 +114,7 @@ impl<T: Read + Write + Drop> Socket<T> {
         room: Room,
     ) -> Progress
         requires { place < length hall.old.guests.items }
+        ensures end { result ≡ Progress.AtEnd → GuestIs IsDone hall.new.guests.items place }
         ensures leads { S.honest shelf.old → HallLeads hall.old (S.store shelf.old) (S.failed shelf.old) hall.new (S.store shelf.new) (S.failed shelf.new) }
         ensures honest { S.honest shelf.old → S.honest shelf.new }
         ensures places { length hall.new.guests.items ≡ length hall.old.guests.items }
@@ -136,6 +140,7 @@ impl<T: Read + Write + Drop> Socket<T> {
     /// What becomes of a connection that stands still: it fails where it does for too long.
     fn endure(&mut self, hall: &Hall, place: usize, room: Room, timing: Timing) -> Progress
         requires { place < length hall.now.guests.items }
+        ensures { result ≢ Progress.AtEnd }
     {
         self.ready = false;
         let idle = timing.time.saturating_sub(self.since);
@@ -161,6 +166,7 @@ impl<T: Read + Write + Drop> Socket<T> {
         timing: Timing,
     ) -> Progress
         requires { place < length hall.old.guests.items }
+        ensures end { result ≡ Progress.AtEnd → GuestIs IsDone hall.new.guests.items place }
         ensures leads { S.honest shelf.old → HallLeads hall.old (S.store shelf.old) (S.failed shelf.old) hall.new (S.store shelf.new) (S.failed shelf.new) }
         ensures honest { S.honest shelf.old → S.honest shelf.new }
         ensures places { length hall.new.guests.items ≡ length hall.old.guests.items }

@@ -1,6 +1,6 @@
 //! What a connection's turn is made of: one write, one answer, or one read.
 
-ghost use Rattle.std.specs.Prelude.{◌≡◌, ◌⊎◌, ◌<◌, [], ℕ, List, length, slice_get, take, Some, Ok, false};
+ghost use Rattle.std.specs.Prelude.{◌≡◌, ◌≢◌, ◌⊎◌, ◌<◌, [], ℕ, List, length, slice_get, take, Some, Ok, false};
 ghost use Rattle.std.specs.Io.KnownBytes.{Appends, Consumes, IsAtEnd};
 ghost use Rattle.repo_hall.specs.Guests.{AnswerCause, IsAwaited, out_of};
 ghost use Rattle.repo_hall.specs.Halls.{HallLeads, HallLeavesStore, HappensAt, NothingHappens};
@@ -35,6 +35,7 @@ pub fn give<W: Write>(hall: &mut Hall, place: usize, writer: &mut W) -> Progress
     ensures written { (g : Guest) → slice_get hall.old.guests.items place ≡ Some g
         → (n : ℕ) × Appends (W.contents writer.old) (W.contents writer.new) (take n (out_of g))
         × (((n ≡ 0) × NothingHappens hall.old hall.new) ⊎ HappensAt (λ k. Given k (take n (out_of g))) hall.old place hall.new) }
+    ensures goes_on { result ≢ Progress.AtEnd }
     ensures leaves { HallLeavesStore hall.old hall.new }
     ensures places { length hall.new.guests.items ≡ length hall.old.guests.items }
 {
@@ -83,6 +84,7 @@ pub fn reply<S: Shelf>(hall: &mut Hall, place: usize, shelf: &mut S) -> Progress
     requires { place < length hall.old.guests.items }
     ensures still { result ≡ Progress.Still → (hall.new.guests.items ≡ hall.old.guests.items)
         × ((g : Guest) → slice_get hall.old.guests.items place ≡ Some g → AnswerCause g (Ok false)) }
+    ensures goes_on { result ≢ Progress.AtEnd }
     ensures leads { S.honest shelf.old → HallLeads hall.old (S.store shelf.old) (S.failed shelf.old) hall.new (S.store shelf.new) (S.failed shelf.new) }
     ensures honest { S.honest shelf.old → S.honest shelf.new }
     ensures places { length hall.new.guests.items ≡ length hall.old.guests.items }

@@ -1,5 +1,5 @@
 -- Scripts are runs.
-use Rattle.std.proofs.Common.{◌≡◌, ◌+◌, ◌∷◌, [], inl, inr, ℕ, Bool, true, false, zero, suc, List, length, Option, Some, None, refl, sym, subst}
+use Rattle.std.proofs.Common.{◌+◌, ◌∷◌, [], inl, inr, ℕ, Bool, true, false, zero, suc, List, length, Option, Some, None, refl, sym, subst}
 use Rattle.repo_wire.specs.declared.messages.Ask.{Ask}
 use Rattle.repo_store.specs.declared.faults.Fail.{Fail}
 use Rattle.repo_world.specs.Stages.{IsReachable}
@@ -81,6 +81,6 @@ all_as_whole before [] s text t h = h
 all_as_whole before (bytes ∷ lines) s text t h = (h.0, h.1, h.2, says_as_whole before bytes s h.1 h.0 h.3, all_as_whole (before + 1) lines h.0 h.2 t h.4, h.5, h.6)
 
 pub carried_as_whole : CarriedIsPlayed
-carried_as_whole input start contents (lines, s, some) =
+carried_as_whole input unread start contents (lines, s, some) =
     let p = some.played in
     (lines, s, record { text = some.text; played = record { lines = p.lines; begun = p.begun; fresh = p.fresh; say = all_as_whole 0 lines p.begun some.text s p.say }; wrote = some.wrote })

@@ -1,9 +1,8 @@
 -- A script that comes in pieces, over a line, a piece and its end.
-use Rattle.std.proofs.Common.{Result, Some, None, false, ◌≡◌, ◌≤◌, ◌+◌, ◌++◌, ◌∷◌, [], inl, inr, ℕ, List, Option, Ok, Err, length, take, refl, sym, ap, subst, ◌∙◌, append_assoc, append-nil, length-append, arith}
-use Rattle.std.specs.Io.KnownBytes.{Appends, Consumes}
+use Rattle.std.proofs.Common.{Result, Some, None, false, ◌≡◌, ◌+◌, ◌++◌, ◌∷◌, [], inl, inr, ℕ, List, Option, Ok, Err, refl, sym, ap, subst, ◌∙◌, append_assoc, append-nil, length-append, arith}
+use Rattle.std.specs.Io.KnownBytes.{Appends, Consumes, Keeps}
 use Rattle.std.proofs.KnownBytes.{Appends-nil, Appends-trans}
 use Rattle.std.proofs.lemmas.Option.{same_Some}
-use Rattle.std.proofs.Math.Seq.{take-append-add}
 use Rattle.repo_locks.specs.TokenMachine.{start as no_tickets}
 use Rattle.repo_store.specs.Output.{AppendsPart}
 use Rattle.repo_store.specs.Stores.{Store}
@@ -14,7 +13,7 @@ use Rattle.repo_script.specs.Cuts.{cut, line_feed}
 use Rattle.repo_script.proofs.CutLemmas.{goes_on}
 use Rattle.repo_play.specs.Lines.{IsFreshScript, State, script_config}
 use Rattle.repo_play.specs.inner.Players.{state_on}
-use Rattle.repo_play.specs.Plays.{Played, PlayedSome, PlaysSome, Plays, IsNotUnderstood, LineSays, SayAll}
+use Rattle.repo_play.specs.Plays.{PlayedSome, PlayedAllRead, PlaysSome, Plays, IsNotUnderstood, LineSays, SayAll}
 use Rattle.repo_play.specs.inner.Scripts.{HasRun, LineRuns, RanLines, ScriptStands, ScriptStops}
 use Rattle.repo_play.specs.declared.faults.LoopError.{LoopError}
 use Rattle.repo_play.specs.declared.faults.PlayError.{PlayError}
@@ -33,20 +32,21 @@ module _ {C : Type 0} (input : List ℕ) (start : Option (List ℕ)) (script : S
   plays_some = (lines, left, state_on script.stage, played)
 
 -- a line isn't run
-pub stopped : {C : Type 0} (input : List ℕ) (start : Option (List ℕ)) (script : Script C) (lines left : List (List ℕ)) (bytes text : List ℕ) (contents : Option (List ℕ)) (e : LoopError)
-    → cut line_feed input ≡ lines ++ bytes ∷ left → RanLines start script lines text contents → ScriptStops script bytes e → Plays script.grammar input start (Err e) contents
-stopped input start script lines left bytes text contents (LoopError.Play (PlayError.Line n)) cuts ran h =
+pub stopped : {C : Type 0} (input : List ℕ) (unread start : Option (List ℕ)) (script : Script C) (lines left : List (List ℕ)) (bytes text : List ℕ) (contents : Option (List ℕ)) (e : LoopError)
+    → cut line_feed input ≡ lines ++ bytes ∷ left → RanLines start script lines text contents → ScriptStops script bytes e → Plays script.grammar input unread start (Err e) contents
+stopped input unread start script lines left bytes text contents (LoopError.Play (PlayError.Line n)) cuts ran h =
     let some = played input start script lines (bytes ∷ left) text contents cuts ran in
     let at = subst (λ m. IsNotUnderstood script.grammar m bytes (state_on script.stage) × (n ≡ m + 1)) ran.number h in
     (lines, left, bytes, state_on script.stage, some, at.0, at.1)
-stopped input start script lines left bytes text contents (LoopError.Play PlayError.Limit) cuts ran (inl far) =
+stopped input unread start script lines left bytes text contents (LoopError.Play PlayError.Limit) cuts ran (inl far) =
     (lines, bytes ∷ left, state_on script.stage, played input start script lines (bytes ∷ left) text contents cuts ran, inl (bytes, left, far.0, refl, far.1, far.2))
-stopped input start script lines left bytes text contents (LoopError.Play PlayError.Limit) cuts ran (inr many) =
+stopped input unread start script lines left bytes text contents (LoopError.Play PlayError.Limit) cuts ran (inr many) =
     (lines, bytes ∷ left, state_on script.stage, played input start script lines (bytes ∷ left) text contents cuts ran, inr (inl (omega (arith, many, ran.number))))
-stopped input start script lines left bytes text contents (LoopError.Play PlayError.Memory) cuts ran h = plays_some input start script lines (bytes ∷ left) text contents cuts ran
-stopped input start script lines left bytes text contents (LoopError.Carry error) cuts ran h = plays_some input start script lines (bytes ∷ left) text contents cuts ran
-stopped input start script lines left bytes text contents (LoopError.Play PlayError.Read) cuts ran h = absurd h
-stopped input start script lines left bytes text contents (LoopError.Play PlayError.Write) cuts ran h = absurd h
+stopped input unread start script lines left bytes text contents (LoopError.Play PlayError.Memory) cuts ran h = plays_some input start script lines (bytes ∷ left) text contents cuts ran
+stopped input unread start script lines left bytes text contents (LoopError.Carry error) cuts ran h =
+    (lines, left, bytes, state_on script.stage, h.0, played input start script lines (bytes ∷ left) text contents cuts ran, h.1, h.2)
+stopped input unread start script lines left bytes text contents (LoopError.Play PlayError.Read) cuts ran h = absurd h
+stopped input unread start script lines left bytes text contents (LoopError.Play PlayError.Write) cuts ran h = absurd h
 
 module _ {C : Type 0} (start : Option (List ℕ)) (old new : Script C) (lines : List (List ℕ)) (bytes text more : List ℕ) (same : new.grammar ≡ old.grammar) where
   said : (contents : Option (List ℕ)) (ran : RanLines start old lines text contents) → LineSays old.grammar old.number bytes (state_on old.stage) more (state_on new.stage)
@@ -67,17 +67,18 @@ module _ {C : Type 0} (start : Option (List ℕ)) (old new : Script C) (lines : 
   }
 
   -- a first part of it alone is written
-  pub unwritten : (input : List ℕ) (left : List (List ℕ)) (before after : Option (List ℕ)) → cut line_feed input ≡ lines ++ bytes ∷ left → RanLines start old lines text before
-      → LineSays old.grammar old.number bytes (state_on old.stage) more (state_on new.stage) → AllAreRuled (state_on new.stage).world → AppendsPart before after more → Plays new.grammar input start (Err (LoopError.Play PlayError.Write)) after
-  unwritten input left before after cuts ran says ruled part =
-      let all : Played old.grammar input (lines ++ bytes ∷ []) left (text ++ more) (state_on new.stage) =
-      record { lines = cuts ∙ sym (append_assoc lines (bytes ∷ []) left); begun = ran.begun; fresh = ran.fresh; say = said before ran says ruled } in (
-        lines ++ bytes ∷ [],
+  pub unwritten : (input : List ℕ) (unread : Option (List ℕ)) (left : List (List ℕ)) (before after : Option (List ℕ)) → cut line_feed input ≡ lines ++ bytes ∷ left → RanLines start old lines text before
+      → LineSays old.grammar old.number bytes (state_on old.stage) more (state_on new.stage) → AppendsPart before after more → Plays new.grammar input unread start (Err (LoopError.Play PlayError.Write)) after
+  unwritten input unread left before after cuts ran says part =
+      let here = subst (λ n. LineSays old.grammar n bytes (state_on old.stage) more (state_on new.stage)) ran.number says in
+      subst (λ grammar. Plays grammar input unread start (Err (LoopError.Play PlayError.Write)) after) (sym same) (
+        lines,
         left,
-        text ++ more,
-        state_on new.stage,
-        subst (λ grammar. Played grammar input (lines ++ bytes ∷ []) left (text ++ more) (state_on new.stage)) (sym same) all,
-        (length text + part.0, omega (arith, part.1, length-append text more), subst (λ x. Appends start after x) (sym (take-append-add text more part.0)) (Appends-trans start before after text (take part.0 more) ran.wrote part.2)),
+        bytes,
+        state_on old.stage,
+        before,
+        played input start old lines (bytes ∷ left) text before cuts ran,
+        record { text = more; state = state_on new.stage; says = here; wrote = part },
       )
 
 -- what is cut of the whole input, where no line has ended in what is left
@@ -141,8 +142,8 @@ module _ {C : Type 0} (input : List ℕ) (start : Option (List ℕ)) (script : S
       whole_cut input start script [] contents h.0 ∙ ap (λ b. h.0.lines ++ cut line_feed b) (append-nil script.cutter) ∙ ap (λ p. h.0.lines ++ p) h.1
 
   -- there is none
-  pub ended_empty : script.cutter ≡ [] → Plays script.grammar input start (Ok (record {})) contents
-  ended_empty empty =
+  pub ended_empty : (unread : Option (List ℕ)) → script.cutter ≡ [] → Plays script.grammar input unread start (Ok (record {})) contents
+  ended_empty unread empty =
       let s = state_on script.stage in
       let ran = h.0.ran in
       let lines = h.0.lines ++ [] ∷ [] in
@@ -154,15 +155,15 @@ module _ {C : Type 0} (input : List ℕ) (start : Option (List ℕ)) (script : S
       (lines, s, record { text = text; played = record { lines = all; begun = ran.begun; fresh = ran.fresh; say = say }; wrote = wrote })
 
 -- the last line was run
-pub ended : {C : Type 0} (input : List ℕ) (start : Option (List ℕ)) (new : Script C) (lines : List (List ℕ)) (text : List ℕ) (after : Option (List ℕ))
-    → cut line_feed input ≡ lines → RanLines start new lines text after → Plays new.grammar input start (Ok (record {})) after
-ended input start new lines text after cuts ran = (lines, state_on new.stage, played input start new lines [] text after (cuts ∙ sym (append-nil lines)) ran)
+pub ended : {C : Type 0} (input : List ℕ) (unread start : Option (List ℕ)) (new : Script C) (lines : List (List ℕ)) (text : List ℕ) (after : Option (List ℕ))
+    → cut line_feed input ≡ lines → RanLines start new lines text after → Plays new.grammar input unread start (Ok (record {})) after
+ended input unread start new lines text after cuts ran = (lines, state_on new.stage, played input start new lines [] text after (cuts ∙ sym (append-nil lines)) ran)
 
 -- however it came out
-pub ends_so : {C : Type 0} (input : List ℕ) (start : Option (List ℕ)) (old new : Script C) (lines : List (List ℕ)) (result : Result (Unit {0}) LoopError) (after : Option (List ℕ)) → new.grammar ≡ old.grammar
-    → cut line_feed input ≡ lines → LineRuns input start lines result new after → Plays old.grammar input start result after
-ends_so input start old new lines (Ok done) after same cuts h = subst (λ g. Plays g input start (Ok done) after) same (ended input start new lines h.0 after cuts h.1)
-ends_so input start old new lines (Err e) after same cuts h = subst (λ g. Plays g input start (Err e) after) same h
+pub ends_so : {C : Type 0} (input : List ℕ) (unread start : Option (List ℕ)) (old new : Script C) (lines : List (List ℕ)) (result : Result (Unit {0}) LoopError) (after : Option (List ℕ)) → new.grammar ≡ old.grammar
+    → cut line_feed input ≡ lines → LineRuns input start lines result new after → Plays old.grammar input unread start result after
+ends_so input unread start old new lines (Ok done) after same cuts h = subst (λ g. Plays g input unread start (Ok done) after) same (ended input unread start new lines h.0 after cuts h.1)
+ends_so input unread start old new lines (Err e) after same cuts h = subst (λ g. Plays g input unread start (Err e) after) same (h unread)
 
 -- ---- the beginning
 
@@ -197,6 +198,28 @@ begun_stands input contents script fresh empty number = (
 )
 
 -- ---- what is read
+
+-- nothing was: just the lines that had ended in what came were run
+pub nothing_read : {C : Type 0} (input : List ℕ) (start : Option (List ℕ)) (script : Script C) (ahead : List ℕ) (unread contents : Option (List ℕ)) → ScriptStands input start script ahead contents
+    → unread ≡ Some ahead → PlayedAllRead script.grammar input unread start contents
+nothing_read input start script ahead unread contents (h, none) same = record {
+  came = h.came;
+  ahead = ahead;
+  whole = h.whole;
+  left = same;
+  lines = h.lines;
+  last = script.cutter;
+  cuts = h.cuts ∙ ap (λ p. h.lines ++ p) none;
+  rest = cut line_feed (script.cutter ++ ahead);
+  state = state_on script.stage;
+  played = played input start script h.lines (cut line_feed (script.cutter ++ ahead)) h.text contents (whole_cut input start script ahead contents h) h.ran;
+}
+
+-- what was there is there
+pub kept_from : (old new : Option (List ℕ)) (ahead : List ℕ) → old ≡ Some ahead → Keeps old new → new ≡ Some ahead
+kept_from None new ahead e h = absurd (cc)
+kept_from (Some xs) None ahead e h = absurd h
+kept_from (Some xs) (Some ys) ahead e h = ap Some h ∙ e
 
 pub taken_from : (old new : Option (List ℕ)) (ahead bytes : List ℕ) → old ≡ Some ahead → Consumes old new bytes → (left : List ℕ) × (new ≡ Some left) × (ahead ≡ bytes ++ left)
 taken_from None new ahead bytes e h = absurd (cc)

@@ -11,4 +11,5 @@ ScriptsAreRuns = (grammar : Grammar) (input : List ℕ) (done left : List (List 
 
 -- what a script prints whose messages are carried, it prints where nothing carries them
 abbrev pub CarriedIsPlayed : Type 0
-CarriedIsPlayed = (input : List ℕ) (start contents : Option (List ℕ)) → Plays Grammar.Carried input start (Ok (record {})) contents → Plays Grammar.Whole input start (Ok (record {})) contents
+CarriedIsPlayed = (input : List ℕ) (unread start contents : Option (List ℕ)) → Plays Grammar.Carried input unread start (Ok (record {})) contents
+    → Plays Grammar.Whole input unread start (Ok (record {})) contents

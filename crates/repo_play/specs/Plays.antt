@@ -1,5 +1,5 @@
 -- What is written of a script.
-use Rattle.std.specs.Prelude.{◌≡◌, ◌≢◌, ◌⊎◌, ◌≤◌, ◌+◌, ◌^◌, ◌++◌, ◌∷◌, [], ℕ, true, false, List, length, Option, Result, Ok, Err, ⊤}
+use Rattle.std.specs.Prelude.{◌≡◌, ◌≢◌, ◌⊎◌, ◌≤◌, ◌+◌, ◌^◌, ◌++◌, ◌∷◌, [], ℕ, true, false, List, length, Option, Some, Result, Ok, Err, ⊤}
 use Rattle.std.specs.Io.KnownBytes.{Appends}
 use Rattle.repo_store.specs.Output.{AppendsPart}
 use Rattle.repo_script.specs.Cuts.{cut, line_feed}
@@ -50,9 +50,9 @@ pub record Played (grammar : Grammar) (input : List ℕ) (done left : List (List
   pub fresh : IsFreshScript false begun
   pub say : SayAll grammar 0 done begun text s
 
--- the next line takes too many steps
-abbrev pub IsFar : List (List ℕ) → State → Type 0
-IsFar left s = (bytes : List ℕ) × (more : List (List ℕ)) × (line : Line) × (left ≡ bytes ∷ more) × IsLine bytes line × GoesFar line s.world
+-- the next line is understood, and takes too many steps
+abbrev pub IsFar : Grammar → List (List ℕ) → State → Type 0
+IsFar grammar left s = (bytes : List ℕ) × (more : List (List ℕ)) × (line : Line) × (left ≡ bytes ∷ more) × IsUnderstood grammar bytes line × GoesFar line s.world
 
 -- the first lines were played, and what they print was written
 pub record PlayedSome (grammar : Grammar) (input : List ℕ) (start contents : Option (List ℕ)) (lines left : List (List ℕ)) (s : State) : Type 0 where
@@ -64,23 +64,54 @@ pub record PlayedSome (grammar : Grammar) (input : List ℕ) (start contents : O
 abbrev pub PlaysSome : Grammar → List ℕ → Option (List ℕ) → Option (List ℕ) → Type 0
 PlaysSome grammar input start contents = (lines left : List (List ℕ)) × (s : State) × PlayedSome grammar input start contents lines left s
 
--- What is written for this input, by what is returned. In each case it is what the first lines print, each of which is done.
-abbrev pub Plays : Grammar → List ℕ → Option (List ℕ) → Result (Unit {0}) LoopError → Option (List ℕ) → Type 0
+-- just those were that had ended in what was read: this is unread
+pub record PlayedAllRead (grammar : Grammar) (input : List ℕ) (unread start contents : Option (List ℕ)) : Type 0 where
+  pub came : List ℕ
+  pub ahead : List ℕ
+  pub whole : input ≡ came ++ ahead
+  pub left : unread ≡ Some ahead
+  pub lines : List (List ℕ)
+  pub last : List ℕ
+  pub cuts : cut line_feed came ≡ lines ++ last ∷ []
+  pub rest : List (List ℕ)
+  pub state : State
+  pub played : PlayedSome grammar input start contents lines rest state
+
+-- the next line, with these bytes, goes on from here and prints this, of which a first part alone is written
+pub record IsHalfWritten (grammar : Grammar) (number : ℕ) (bytes : List ℕ) (s : State) (before after : Option (List ℕ)) : Type 0 where
+  pub text : List ℕ
+  pub state : State
+  pub says : LineSays grammar number bytes s text state
+  pub wrote : AppendsPart before after text
+
+-- a line whose messages may be carried
+abbrev pub Carries : Line → Type 0
+Carries (Line.Step k) = ⊤
+Carries (Line.Finish k) = ⊤
+Carries (Line.Until k sort) = ⊤
+Carries (Line.Fault k fail) = ⊤
+Carries _ = ⊥
+
+-- What is written for this input, of which this is unread in the end, by what is returned. In each case it is what the first lines print, each of which is done.
+abbrev pub Plays : Grammar → List ℕ → Option (List ℕ) → Option (List ℕ) → Result (Unit {0}) LoopError → Option (List ℕ) → Type 0
 -- all lines
-Plays grammar input start (Ok done) contents = (lines : List (List ℕ)) × (s : State) × PlayedSome grammar input start contents lines [] s
+Plays grammar input unread start (Ok done) contents = (lines : List (List ℕ)) × (s : State) × PlayedSome grammar input start contents lines [] s
 -- all before this one, which isn't understood
-Plays grammar input start (Err (LoopError.Play (PlayError.Line n))) contents = (lines left : List (List ℕ)) × (bytes : List ℕ) × (s : State)
+Plays grammar input unread start (Err (LoopError.Play (PlayError.Line n))) contents = (lines left : List (List ℕ)) × (bytes : List ℕ) × (s : State)
     × PlayedSome grammar input start contents lines (bytes ∷ left) s × IsNotUnderstood grammar (length lines) bytes s × (n ≡ length lines + 1)
 -- all before one that takes 2^32 steps; or 2^32 lines; or some, where as many bytes were read as there may be reads
-Plays grammar input start (Err (LoopError.Play PlayError.Limit)) contents = (lines left : List (List ℕ)) × (s : State)
-    × PlayedSome grammar input start contents lines left s × (IsFar left s ⊎ ((2 ^ 32 ≤ length lines) ⊎ (2 ^ 48 ≤ length input)))
+Plays grammar input unread start (Err (LoopError.Play PlayError.Limit)) contents = (lines left : List (List ℕ)) × (s : State)
+    × PlayedSome grammar input start contents lines left s × (IsFar grammar left s ⊎ ((2 ^ 32 ≤ length lines) ⊎ (2 ^ 48 ≤ length input)))
+-- all that ended in what was read
+Plays grammar input unread start (Err (LoopError.Play PlayError.Read)) contents = PlayedAllRead grammar input unread start contents
 -- some
-Plays grammar input start (Err (LoopError.Play PlayError.Read)) contents = PlaysSome grammar input start contents
-Plays grammar input start (Err (LoopError.Play PlayError.Memory)) contents = PlaysSome grammar input start contents
-Plays grammar input start (Err (LoopError.Carry error)) contents = PlaysSome grammar input start contents
--- some, and of what they print a first part alone is written
-Plays grammar input start (Err (LoopError.Play PlayError.Write)) contents =
-    (lines left : List (List ℕ)) × (text : List ℕ) × (s : State) × Played grammar input lines left text s × AppendsPart start contents text
+Plays grammar input unread start (Err (LoopError.Play PlayError.Memory)) contents = PlaysSome grammar input start contents
+-- all before one whose messages may be carried
+Plays grammar input unread start (Err (LoopError.Carry error)) contents = (lines left : List (List ℕ)) × (bytes : List ℕ) × (s : State) × (line : Line)
+    × PlayedSome grammar input start contents lines (bytes ∷ left) s × IsUnderstood grammar bytes line × Carries line
+-- all before one, and of what that prints a first part alone
+Plays grammar input unread start (Err (LoopError.Play PlayError.Write)) contents = (lines left : List (List ℕ)) × (bytes : List ℕ) × (s : State) × (before : Option (List ℕ))
+    × PlayedSome grammar input start before lines (bytes ∷ left) s × IsHalfWritten grammar (length lines) bytes s before contents
 
 -- what is returned where nothing is carried
 abbrev pub uncarried : Result (Unit {0}) PlayError → Result (Unit {0}) LoopError

@@ -5,13 +5,13 @@ use std::alloc::{AllocError, AllocFailed};
 use thiserror::Error;
 
 /// Why a script isn't played to its end. The lines before the one at which it stopped were run, and what they print was
-/// written, but for `Write`.
+/// written.
 #[derive(Clone, Copy, Debug, PartialEq, Eq, Error)]
 pub enum PlayError {
-    /// The reader failed.
+    /// The reader failed. Just the lines were run that had ended in what was read.
     #[error("read failed")]
     Read,
-    /// The writer failed, or took nothing: of what the last line prints a first part was written, or nothing.
+    /// The writer failed, or took nothing: of what one more line prints a first part was written, or nothing, but not all.
     #[error("write failed")]
     Write,
     /// The line of this number, counted from 1, isn't understood: its bytes are no line, or it names a client that isn't there

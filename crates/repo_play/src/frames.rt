@@ -4,7 +4,7 @@ ghost use Rattle.std.specs.Prelude.{◌≡◌, ◌⊎◌, ◌≤◌, ◌<◌, �
 ghost use Rattle.std.specs.Io.KnownBytes.{Consumes};
 ghost use Rattle.repo_wire.specs.Messages.{replies, reply_body, requests, request_body};
 ghost use Rattle.repo_wire.specs.Stream.{FitsFrame, frame};
-ghost use Rattle.repo_play.specs.Frames.{IsCarried, IsTooLarge};
+ghost use Rattle.repo_play.specs.Frames.{Differs, IsCarried, IsTooLarge};
 ghost use Rattle.repo_play.specs.declared.faults.CarryError.{CarryError};
 
 use crate::faults::CarryError;
@@ -24,6 +24,7 @@ fn hear_some<R: Read>(coming: &[u8], piece: &mut [u8], reader: &mut R) -> Result
     ensures room { length piece.new ≡ length piece.old }
     ensures short { ¬ IsErrOf result CarryError.TooLarge }
     ensures reached { ¬ IsErrOf result CarryError.NotReached }
+    ensures malformed { IsErrOf result CarryError.Malformed → Differs coming.now (R.remaining reader.old) (R.remaining reader.new) }
 {
     let room = &mut piece[..coming.len()];
     match reader.read(room) {
@@ -45,6 +46,7 @@ fn hear<R: Read>(coming: &[u8], piece: &mut [u8], reader: &mut R) -> Result<(), 
     ensures heard { OnOk result (Consumes (R.remaining reader.old) (R.remaining reader.new) coming.now) }
     ensures short { ¬ IsErrOf result CarryError.TooLarge }
     ensures reached { ¬ IsErrOf result CarryError.NotReached }
+    ensures malformed { IsErrOf result CarryError.Malformed → Differs coming.now (R.remaining reader.old) (R.remaining reader.new) }
 {
     let mut heard = 0;
     while heard < coming.len() {
@@ -64,6 +66,7 @@ fn carry_frame<R: Read, W: Write>(
     ensures large { IsErrOf result CarryError.TooLarge ↔ (65536 < length frame.now) }
     ensures quiet { IsErrOf result CarryError.TooLarge → (reader.new ≡ reader.old) × (writer.new ≡ writer.old) }
     ensures reached { ¬ IsErrOf result CarryError.NotReached }
+    ensures malformed { IsErrOf result CarryError.Malformed → Differs frame.now (R.remaining reader.old) (R.remaining reader.new) }
 {
     if frame.len() > FRAME_LIMIT {
         return Err(CarryError::TooLarge);
@@ -90,6 +93,7 @@ pub fn carry_request<R: Read, W: Write>(
     ensures refused { IsTooLarge (FitsFrame requests request.now) (frame (request_body request.now)) → IsErrOf result CarryError.TooLarge ⊎ IsErrOf result CarryError.Memory }
     ensures quiet { IsErrOf result CarryError.TooLarge → (reader.new ≡ reader.old) × (writer.new ≡ writer.old) }
     ensures reached { ¬ IsErrOf result CarryError.NotReached }
+    ensures malformed { IsErrOf result CarryError.Malformed → Differs (frame (request_body request.now)) (R.remaining reader.old) (R.remaining reader.new) }
 {
     if !request.fits() {
         return Err(CarryError::TooLarge);
@@ -113,6 +117,7 @@ pub fn carry_reply<R: Read, W: Write>(
     ensures refused { IsTooLarge (FitsFrame replies reply.now) (frame (reply_body reply.now)) → IsErrOf result CarryError.TooLarge ⊎ IsErrOf result CarryError.Memory }
     ensures quiet { IsErrOf result CarryError.TooLarge → (reader.new ≡ reader.old) × (writer.new ≡ writer.old) }
     ensures reached { ¬ IsErrOf result CarryError.NotReached }
+    ensures malformed { IsErrOf result CarryError.Malformed → Differs (frame (reply_body reply.now)) (R.remaining reader.old) (R.remaining reader.new) }
 {
     if !reply.fits() {
         return Err(CarryError::TooLarge);

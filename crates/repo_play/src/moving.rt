@@ -1,10 +1,11 @@
 //! Lines that print nothing and are about no entries.
 
-ghost use Rattle.std.specs.Prelude.{◌≡◌, IfErr, OnOk, IsErrOf};
+ghost use Rattle.std.specs.Prelude.{IfErr, OnOk, IsErrOf};
 ghost use Rattle.repo_world.specs.Stages.{seen};
 ghost use Rattle.repo_play.specs.Lines.{MovesWorld, CannotMove, GoesFar};
 ghost use Rattle.repo_play.specs.inner.Players.{NeverFails};
 ghost use Rattle.repo_play.specs.inner.Scripts.{HaltsBy};
+ghost use Rattle.repo_play.specs.Plays.{Carries};
 ghost use Rattle.repo_play.specs.Steps.{HasClient};
 ghost use Rattle.repo_play.specs.declared.faults.Halt.{Halt};
 ghost use Rattle.repo_script.specs.declared.lines.Line.{Line};
@@ -45,6 +46,7 @@ pub fn move_on<S: Shelf + Drop, C: Carrier>(
     ensures nonsense { IsErrOf result Halt.Nonsense → CannotMove line.now (seen S.store world.old) }
     ensures far { IsErrOf result Halt.Limit → GoesFar line.now (seen S.store world.old) }
     ensures carried { IfErr result (HaltsBy C.fails) }
+    ensures carries { IfErr result (HaltsBy (λ _. Carries line.now)) }
 {
     match line {
         Line::Step(client) => step(world, carrier, *client, None),

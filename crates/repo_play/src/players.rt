@@ -3,6 +3,7 @@
 ghost use Rattle.std.specs.Prelude.{◌≡◌, [], IfOk, IfErr, OnOk, IsErrOf, string_bytes};
 ghost use Rattle.repo_world.specs.declared.jobs.Job.{Job};
 ghost use Rattle.repo_play.specs.Lines.{CannotMove, Does, DoesStart, IsJob, IsNonsense, GoesFar, MovesWorld, left_by};
+ghost use Rattle.repo_play.specs.Plays.{Carries};
 ghost use Rattle.repo_play.specs.inner.Players.{NeverFails, state_of};
 ghost use Rattle.repo_play.specs.inner.Scripts.{HaltsBy};
 ghost use Rattle.repo_play.specs.declared.faults.Halt.{Halt};
@@ -117,6 +118,7 @@ impl<S: Shelf + Drop> Player<S> {
         ensures nonsense { IsErrOf result Halt.Nonsense → CannotMove line.now (state_of S.store self.old).world }
         ensures far { IsErrOf result Halt.Limit → GoesFar line.now (state_of S.store self.old).world }
         ensures carried { IfErr result (HaltsBy C.fails) }
+        ensures carries { IfErr result (HaltsBy (λ _. Carries line.now)) }
     {
         move_on(&mut self.world, carrier, line)?;
         Ok(String::new(self.alloc))
@@ -129,6 +131,7 @@ impl<S: Shelf + Drop> Player<S> {
         ensures nonsense { IsErrOf result Halt.Nonsense → IsNonsense line (state_of S.store self.old) }
         ensures far { IsErrOf result Halt.Limit → GoesFar line (state_of S.store self.old).world }
         ensures carried { IfErr result (HaltsBy C.fails) }
+        ensures carries { IfErr result (HaltsBy (λ _. Carries line)) }
     {
         match line {
             Line::Entry(entry) => self.enter(entry),

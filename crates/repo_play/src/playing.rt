@@ -51,7 +51,7 @@ fn play_on<C: Carrier + Drop, R: Read, W: Write>(
 ) -> Result<(), LoopError>
     requires { 0 < length piece.old }
     ensures plays { (input : List ℕ) → R.remaining reader.old ≡ Some input → ScriptStands input (W.contents writer.old) script.old input (W.contents writer.old)
-        → Plays script.old.grammar input (W.contents writer.old) result (W.contents writer.new) }
+        → Plays script.old.grammar input (R.remaining reader.new) (W.contents writer.old) result (W.contents writer.new) }
     ensures carried { IfErr result (EndsBy C.fails) }
 {
     for turn in 0..READS {
@@ -71,7 +71,7 @@ fn play_carried<C: Carrier + Drop, R: Read, W: Write>(
     reader: &mut R,
     writer: &mut W,
 ) -> Result<(), LoopError>
-    ensures plays { (input : List ℕ) → R.remaining reader.old ≡ Some input → Plays grammar input (W.contents writer.old) result (W.contents writer.new) }
+    ensures plays { (input : List ℕ) → R.remaining reader.old ≡ Some input → Plays grammar input (R.remaining reader.new) (W.contents writer.old) result (W.contents writer.new) }
     ensures carried { IfErr result (EndsBy C.fails) }
 {
     let mut piece = vec![in alloc; 0u8; PIECE]?;
@@ -88,7 +88,7 @@ pub fn play<R: Read, W: Write>(
     writer: &mut W,
 ) -> Result<(), PlayError>
     ensures { (input : List ℕ) → R.remaining reader.old ≡ Some input
-        → Plays Grammar.Whole input (W.contents writer.old) (uncarried result) (W.contents writer.new) }
+        → Plays Grammar.Whole input (R.remaining reader.new) (W.contents writer.old) (uncarried result) (W.contents writer.new) }
 {
     match play_carried(alloc, Grammar::Whole, Nothing, reader, writer) {
         Ok(()) => Ok(()),
@@ -107,7 +107,7 @@ pub fn carry<C: Carrier + Drop, R: Read, W: Write>(
     reader: &mut R,
     writer: &mut W,
 ) -> Result<(), LoopError>
-    ensures plays { (input : List ℕ) → R.remaining reader.old ≡ Some input → Plays Grammar.Carried input (W.contents writer.old) result (W.contents writer.new) }
+    ensures plays { (input : List ℕ) → R.remaining reader.old ≡ Some input → Plays Grammar.Carried input (R.remaining reader.new) (W.contents writer.old) result (W.contents writer.new) }
     ensures carried { IfErr result (EndsBy C.fails) }
 {
     play_carried(alloc, Grammar::Carried, carrier, reader, writer)

@@ -4,10 +4,9 @@ ghost use Rattle.std.specs.Prelude.{◌≡◌, true, false, length, IfOk, IfErr,
 ghost use Rattle.repo_world.specs.Rules.{AllAreRuled};
 ghost use Rattle.repo_play.specs.Lines.{Does, GoesFar, IsFreshScript, IsNonsense};
 ghost use Rattle.repo_play.specs.inner.Players.{state_on};
-ghost use Rattle.repo_play.specs.Plays.{LineSays, IsNotUnderstood};
+ghost use Rattle.repo_play.specs.Plays.{Carries, LineSays, IsUnderstood, IsNotUnderstood};
 ghost use Rattle.repo_play.specs.inner.Scripts.{HaltsBy};
 ghost use Rattle.repo_play.specs.declared.faults.Halt.{Halt};
-ghost use Rattle.repo_script.specs.Lines.{IsLine};
 ghost use Rattle.repo_script.specs.declared.lines.Line.{Line};
 
 use crate::beginnings::beginning;
@@ -67,6 +66,7 @@ impl Stage {
         ensures nonsense { IsErrOf result Halt.Nonsense → IsNonsense line (state_on self.old) }
         ensures far { IsErrOf result Halt.Limit → GoesFar line (state_on self.old).world }
         ensures carried { IfErr result (HaltsBy C.fails) }
+        ensures carries { IfErr result (HaltsBy (λ _. Carries line)) }
     {
         match self {
             Stage::Keeping(player) => player.run(carrier, line),
@@ -85,8 +85,9 @@ impl Stage {
     ) -> Result<String, Halt>
         ensures says { IfOk result (λ text. LineSays grammar before bytes.now (state_on self.old) (string_bytes text) (state_on self.new)) }
         ensures nonsense { IsErrOf result Halt.Nonsense → IsNotUnderstood grammar before bytes.now (state_on self.old) }
-        ensures far { IsErrOf result Halt.Limit → (line : Line) × IsLine bytes.now line × GoesFar line (state_on self.old).world }
+        ensures far { IsErrOf result Halt.Limit → (line : Line) × IsUnderstood grammar bytes.now line × GoesFar line (state_on self.old).world }
         ensures carried { IfErr result (HaltsBy C.fails) }
+        ensures carries { IfErr result (HaltsBy (λ _. (line : Line) × IsUnderstood grammar bytes.now line × Carries line)) }
     {
         let line = match read_line(alloc, bytes) {
             Ok(Some(line)) => line,

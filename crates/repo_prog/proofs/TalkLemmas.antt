@@ -35,23 +35,23 @@ whole_told start talk lines past contents talks = record {
 }
 
 -- no memory, after all lines were written
-pub memory_told : (input rest : List ℕ) (start : Option (List ℕ)) (talk : Talk) (lines : List (List ℕ)) (past : Past) (contents : Option (List ℕ)) → AreLines input lines rest
-    → Talks start talk lines past contents → FramesGive input start (Err FramesError.Memory) contents
-memory_told input rest start talk lines past contents are talks = (lines, past, rest, are, whole_told start talk lines past contents talks)
+pub memory_told : (input rest : List ℕ) (unread start : Option (List ℕ)) (talk : Talk) (lines : List (List ℕ)) (past : Past) (contents : Option (List ℕ)) → AreLines input lines rest
+    → Talks start talk lines past contents → FramesGive input unread start (Err FramesError.Memory) contents
+memory_told input rest unread start talk lines past contents are talks = (lines, past, rest, are, whole_told start talk lines past contents talks)
 
 -- why the service ended is why the talk does
-ended_past : (error : ServiceError) (input rest : List ℕ) (start : Option (List ℕ)) (lines : List (List ℕ)) (past : Past) (last : Store) (contents : Option (List ℕ))
-    → AreLines input lines rest → Spell lines past.bytes → EndsBy hex_line error (seen empty 0 start) past (seen last 0 contents) → FramesGive input start (Err (frames_error error)) contents
-ended_past (ServiceError.Wire fault) input rest start lines past last contents are spelled ends = (lines, past, rest, are, record { spelled = spelled; last = last; served = ends })
-ended_past ServiceError.Write input rest start lines past last contents are spelled ends = (lines, past, rest, are, record { spelled = spelled; last = last; served = ends })
-ended_past ServiceError.Limit input rest start lines past last contents are spelled ends = (lines, past, rest, are, record { spelled = spelled; last = last; served = ends.0 }, inl ends.1)
-ended_past ServiceError.Memory input rest start lines past last contents are spelled ends = (lines, past, rest, are, record { spelled = spelled; last = last; served = ends })
+ended_past : (error : ServiceError) (input rest : List ℕ) (unread start : Option (List ℕ)) (lines : List (List ℕ)) (past : Past) (last : Store) (contents : Option (List ℕ))
+    → AreLines input lines rest → Spell lines past.bytes → EndsBy hex_line error (seen empty 0 start) past (seen last 0 contents) → FramesGive input unread start (Err (frames_error error)) contents
+ended_past (ServiceError.Wire fault) input rest unread start lines past last contents are spelled ends = (lines, past, rest, are, record { spelled = spelled; last = last; served = ends })
+ended_past ServiceError.Write input rest unread start lines past last contents are spelled ends = (lines, past, rest, are, record { spelled = spelled; last = last; served = ends })
+ended_past ServiceError.Limit input rest unread start lines past last contents are spelled ends = (lines, past, rest, are, record { spelled = spelled; last = last; served = ends.0 }, inl ends.1)
+ended_past ServiceError.Memory input rest unread start lines past last contents are spelled ends = (lines, past, rest, are, record { spelled = spelled; last = last; served = ends })
 
-pub ended_told : (error : ServiceError) (input rest : List ℕ) (start : Option (List ℕ)) (lines : List (List ℕ)) (bytes : List ℕ) (last : Store) (contents : Option (List ℕ))
-    → AreLines input lines rest → Spell lines bytes → ServiceEnds hex_line error (seen empty 0 start) bytes (seen last 0 contents) → FramesGive input start (Err (frames_error error)) contents
-ended_told error input rest start lines bytes last contents are spelled ends =
+pub ended_told : (error : ServiceError) (input rest : List ℕ) (unread start : Option (List ℕ)) (lines : List (List ℕ)) (bytes : List ℕ) (last : Store) (contents : Option (List ℕ))
+    → AreLines input lines rest → Spell lines bytes → ServiceEnds hex_line error (seen empty 0 start) bytes (seen last 0 contents) → FramesGive input unread start (Err (frames_error error)) contents
+ended_told error input rest unread start lines bytes last contents are spelled ends =
     let P : List ℕ → Type 0 = λ x. Spell lines x in
-    ended_past error input rest start lines ends.0 last contents are (subst P (sym ends.1) spelled) ends.2
+    ended_past error input rest unread start lines ends.0 last contents are (subst P (sym ends.1) spelled) ends.2
 
 -- a service that answered all of a line's bytes
 pub line_answered : (start : Option (List ℕ)) (talk : Talk) (lines : List (List ℕ)) (bytes : List ℕ) (contents : Option (List ℕ)) → Spell lines bytes → talk.number ≡ length lines
@@ -61,19 +61,19 @@ line_answered start talk lines bytes contents spelled number a =
     (a.0, record { spelled = subst P (sym a.1) spelled; rests = a.2; number = number })
 
 -- a line that ended, and nothing of the next
-pub ended_goes : (input ahead : List ℕ) (start : Option (List ℕ)) (new : Talk) (lines : List (List ℕ)) (result : Result (Unit {0}) FramesError) (contents : Option (List ℕ))
-    → AreLines input lines ahead → OnOk result (new.line.items ≡ []) → LineGives input start lines result new contents → BytesGive input start result new ahead contents
-ended_goes input ahead start new lines (Ok done) contents ended none h =
+pub ended_goes : (input ahead : List ℕ) (unread start : Option (List ℕ)) (new : Talk) (lines : List (List ℕ)) (result : Result (Unit {0}) FramesError) (contents : Option (List ℕ))
+    → AreLines input lines ahead → OnOk result (new.line.items ≡ []) → LineGives input unread start lines result new contents → BytesGive input unread start result new ahead contents
+ended_goes input ahead unread start new lines (Ok done) contents ended none h =
     let P : List ℕ → Type 0 = λ line. IsHexLine line in
     let Q : List ℕ → Type 0 = λ line. AreLines input lines (line ++ ahead) in
     (lines, h.0, record { talks = h.1; line = subst P (sym none) tt; are = subst Q (sym none) ended })
-ended_goes input ahead start new lines (Err error) contents ended none h = h
+ended_goes input ahead unread start new lines (Err error) contents ended none h = h
 
 -- the last line that ended
-pub last_goes : (input : List ℕ) (start : Option (List ℕ)) (new : Talk) (lines : List (List ℕ)) (result : Result (Unit {0}) FramesError) (contents : Option (List ℕ))
-    → AreLines input lines [] → LineGives input start lines result new contents → EndGives input start result new contents
-last_goes input start new lines (Ok done) contents ended h = (lines, h.0, ended, h.1)
-last_goes input start new lines (Err error) contents ended h = h
+pub last_goes : (input : List ℕ) (unread start : Option (List ℕ)) (new : Talk) (lines : List (List ℕ)) (result : Result (Unit {0}) FramesError) (contents : Option (List ℕ))
+    → AreLines input lines [] → LineGives input unread start lines result new contents → EndGives input unread start result new contents
+last_goes input unread start new lines (Ok done) contents ended h = (lines, h.0, ended, h.1)
+last_goes input unread start new lines (Err error) contents ended h = h
 
 -- one more byte of the line
 pub byte_taken : (input ahead : List ℕ) (start : Option (List ℕ)) (old new : Talk) (lines : List (List ℕ)) (past : Past) (contents : Option (List ℕ)) (byte : ℕ) → (byte ≡ line_feed → ⊥)
@@ -98,7 +98,7 @@ begun input start talk talks none =
     record { talks = talks; line = subst P (sym none) tt; are = subst Q (sym none) refl }
 
 -- what the end of the service's stream gives is what the talk gives
-pub finish_told : (input : List ℕ) (start : Option (List ℕ)) (lines : List (List ℕ)) (past : Past) (last : Store) (contents : Option (List ℕ)) (found : Option ℕ) → AreLines input lines []
-    → Spell lines past.bytes → Finishes hex_line (seen empty 0 start) past found (seen last 0 contents) → FramesGive input start (ok_or found FramesError.Inside) contents
-finish_told input start lines past last contents (Some n) are spelled h = (lines, past, are, record { spelled = spelled; last = last; served = h.1 }, h.0)
-finish_told input start lines past last contents None are spelled h = (lines, past, h.0, are, h.1, record { spelled = spelled; last = last; served = h.2 })
+pub finish_told : (input : List ℕ) (unread start : Option (List ℕ)) (lines : List (List ℕ)) (past : Past) (last : Store) (contents : Option (List ℕ)) (found : Option ℕ) → AreLines input lines []
+    → Spell lines past.bytes → Finishes hex_line (seen empty 0 start) past found (seen last 0 contents) → FramesGive input unread start (ok_or found FramesError.Inside) contents
+finish_told input unread start lines past last contents (Some n) are spelled h = (lines, past, are, record { spelled = spelled; last = last; served = h.1 }, h.0)
+finish_told input unread start lines past last contents None are spelled h = (lines, past, h.0, are, h.1, record { spelled = spelled; last = last; served = h.2 })

@@ -126,24 +126,24 @@ ReadsInput (Order.Init folder making) = ⊥
 ReadsInput (Order.Serve folder address serving) = ⊥
 ReadsInput (Order.Client address errand retry idle) = ⊥
 
--- what the command gives for this input: all that was asked, or what one of the errors leaves
-abbrev pub FramesGives : List ℕ → Option (List ℕ) → Status → Option (List ℕ) → Type 0
-FramesGives input start Status.Done contents = (n : ℕ) × FramesGive input start (Ok n) contents
-FramesGives input start Status.Failed contents = (error : FramesError) × FramesGive input start (Err error) contents
-FramesGives input start Status.Usage contents = ⊥
-FramesGives input start Status.Flawed contents = ⊥
+-- what the command gives for this input, of which this is left unread: all that was asked, or what one of the errors leaves
+abbrev pub FramesGives : List ℕ → Option (List ℕ) → Status → Option (List ℕ) → Option (List ℕ) → Type 0
+FramesGives input start Status.Done left contents = (n : ℕ) × FramesGive input left start (Ok n) contents
+FramesGives input start Status.Failed left contents = (error : FramesError) × FramesGive input left start (Err error) contents
+FramesGives input start Status.Usage left contents = ⊥
+FramesGives input start Status.Flawed left contents = ⊥
 
--- the same of a script: it was played to its end, or as far as one of the errors lets it
-abbrev pub PlayGives : List ℕ → Option (List ℕ) → Status → Option (List ℕ) → Type 0
-PlayGives input start Status.Done contents = Plays Grammar.Whole input start (Ok tt) contents
-PlayGives input start Status.Failed contents = (error : PlayError) × Plays Grammar.Whole input start (uncarried (Err error)) contents
-PlayGives input start Status.Usage contents = ⊥
-PlayGives input start Status.Flawed contents = ⊥
+-- the same of a script, of which this is left unread: it was played to its end, or as far as one of the errors lets it
+abbrev pub PlayGives : List ℕ → Option (List ℕ) → Status → Option (List ℕ) → Option (List ℕ) → Type 0
+PlayGives input start Status.Done left contents = Plays Grammar.Whole input left start (Ok tt) contents
+PlayGives input start Status.Failed left contents = (error : PlayError) × Plays Grammar.Whole input left start (uncarried (Err error)) contents
+PlayGives input start Status.Usage left contents = ⊥
+PlayGives input start Status.Flawed left contents = ⊥
 
 -- and of one whose messages are carried; or nothing could listen, and nothing was read or written
 abbrev pub LoopGives : List ℕ → Option (List ℕ) → Status → Option (List ℕ) → Option (List ℕ) → Type 0
-LoopGives input start Status.Done left contents = Plays Grammar.Carried input start (Ok tt) contents
-LoopGives input start Status.Failed left contents = ((left ≡ Some input) × (contents ≡ start)) ⊎ ((error : LoopError) × Plays Grammar.Carried input start (Err error) contents)
+LoopGives input start Status.Done left contents = Plays Grammar.Carried input left start (Ok tt) contents
+LoopGives input start Status.Failed left contents = ((left ≡ Some input) × (contents ≡ start)) ⊎ ((error : LoopError) × Plays Grammar.Carried input left start (Err error) contents)
 LoopGives input start Status.Usage left contents = ⊥
 LoopGives input start Status.Flawed left contents = ⊥
 

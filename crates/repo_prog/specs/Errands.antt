@@ -40,7 +40,7 @@ abbrev pub BacksUp : Caller → List ℕ → ℕ → Connections → Connections
 BacksUp caller host retry coming after start status contents =
     BackupObeyed caller host None retry coming after × TellsStored caller host None retry coming after (unflawed status) start contents
 
--- what each errand gives, over so many connections at most after the first
+-- what each errand gives, over so many connections at most after the first; by a policy that keeps nothing none is asked for
 abbrev pub ErrandGives : Errand → Caller → ℕ → Connections → Connections → Option (List ℕ) → Status → Option (List ℕ) → Type 0
 ErrandGives (Errand.Backup host folder) caller retry coming after start status contents = BacksUp caller host retry coming after start status contents
 ErrandGives Errand.Snapshots caller retry coming after start status contents =
@@ -49,10 +49,10 @@ ErrandGives (Errand.Restore name folder) caller retry coming after start status 
     RestoreObeyed caller name retry coming after × TellsRestored caller name retry coming after status start contents
 ErrandGives (Errand.Forget choice) caller retry coming after start status contents =
     ForgetObeyed caller choice retry coming after × TellsForgotten caller choice retry coming after status start contents
-    × (IsNoPolicy choice → (status ≡ Status.Failed) × (contents ≡ start))
+    × (IsNoPolicy choice → (status ≡ Status.Failed) × (contents ≡ start) × (after ≡ coming))
 ErrandGives (Errand.Foresee choice) caller retry coming after start status contents =
     ListObeyed caller retry coming after × TellsForeseen caller choice retry coming after status start contents
-    × (IsNoPolicy choice → (status ≡ Status.Failed) × (contents ≡ start))
+    × (IsNoPolicy choice → (status ≡ Status.Failed) × (contents ≡ start) × (after ≡ coming))
 ErrandGives Errand.Prune caller retry coming after start status contents =
     PruneObeyed caller retry coming after × TellsPruned caller retry coming after status start contents
 ErrandGives Errand.Upgrade caller retry coming after start status contents =
@@ -68,8 +68,8 @@ AddressGives errand retry start status contents = ((status ≡ Status.Failed) ×
 
 -- what an order gives on the output: by the input, where it reads that, and all of it is known
 abbrev pub OrderGives : Order → Option (List ℕ) → Option (List ℕ) → Option (List ℕ) → Status → Option (List ℕ) → Type 0
-OrderGives Order.Frames input left start status contents = (text : List ℕ) → input ≡ Some text → FramesGives text start status contents
-OrderGives Order.Play input left start status contents = (text : List ℕ) → input ≡ Some text → PlayGives text start status contents
+OrderGives Order.Frames input left start status contents = (text : List ℕ) → input ≡ Some text → FramesGives text start status left contents
+OrderGives Order.Play input left start status contents = (text : List ℕ) → input ≡ Some text → PlayGives text start status left contents
 OrderGives Order.Loop input left start status contents = (text : List ℕ) → input ≡ Some text → LoopGives text start status left contents
 OrderGives (Order.Init folder making) input left start status contents = (left ≡ input) × IsEnd status × (status ≡ Status.Done → (id : Instance) × IsInstance id × Appends start contents (created_line id))
     × (status ≡ Status.Failed → (contents ≡ start) ⊎ ((id : Instance) × IsInstance id × IsCutShort start contents (created_line id)))

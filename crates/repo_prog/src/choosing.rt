@@ -1,12 +1,13 @@
 //! What the words of `vault forget` choose.
 
-ghost use Rattle.std.specs.Prelude.{◌≡◌, ◌≢◌, ◌↔◌, [], map, codes, IfOk, IfSome, IsErr, IsTrue};
+ghost use Rattle.std.specs.Prelude.{◌≡◌, ◌≢◌, ◌↔◌, [], map, codes, IfErr, IfOk, IfSome, IsErr, IsTrue};
 ghost use Rattle.clap.specs.Matches.{found_of, first_value};
 ghost use Rattle.repo_name.specs.Naming.{hex_of};
 ghost use Rattle.repo_name.specs.Rows.{IsHost};
 ghost use Rattle.repo_prog.specs.Commands.{HasPolicy, IsChoice, choice_for};
 ghost use Rattle.repo_prog.specs.Spelled.{AddsWords, IsOfKind, choice_rules, count_rule, option_rule};
 ghost use Rattle.repo_prog.specs.Words.{Chooses, IsNumber, IsPolicyOf, words_of};
+ghost use Rattle.repo_prog.specs.declared.words.WordsError.{WordsError};
 ghost use Rattle.repo_prune.specs.declared.choices.Choice.{Choice};
 
 use crate::meanings::{DRY_RUN, FORGOTTEN, KEEP_DAILY, KEEP_LAST, OF_HOST};
@@ -110,6 +111,7 @@ fn has_policy(host: &Option<Text>, policy: &Policy) -> bool
 /// for the host where there is one. Names and any of the others together are refused.
 fn choice_by(host: Option<Text>, policy: Policy, names: Vec<Name>) -> Result<Choice, WordsError>
     ensures refused { IsErr result ↔ ((names.items ≢ []) × HasPolicy host policy) }
+    ensures both { IfErr result (λ error. error ≡ WordsError.NamesAndPolicy) }
     ensures names { IfOk result (λ choice. names.items ≢ [] → choice ≡ Choice.Names names.items) }
     ensures policy { IfOk result (λ choice. names.items ≡ [] → choice ≡ choice_for host policy) }
     ensures within { IfSome host IsHost → IfOk result IsChoice }

@@ -1,9 +1,10 @@
 //! A client's errand at a server's address.
 
 ghost use Rattle.std.specs.Prelude.{◌≡◌, ◌≢◌};
-ghost use Rattle.repo_prog.specs.Commands.{IsErrand};
+ghost use Rattle.repo_prog.specs.Commands.{IsErrand, IsStoredStatus};
 ghost use Rattle.repo_prog.specs.Asking.{streams};
 ghost use Rattle.repo_prog.specs.Errands.{AddressGives, ErrandGives, LockGives, LocksGive};
+ghost use Rattle.repo_prog.specs.declared.errands.Errand.{Errand};
 ghost use Rattle.repo_prog.specs.declared.status.Status.{Status};
 
 use crate::backup::backup_command;
@@ -83,6 +84,7 @@ pub fn do_errand<T: Files + AllocGlobal + Clone + Drop, D: Dial, O: Write, F: Wr
 ) -> Status
     requires { IsErrand errand }
     ensures gives { ErrandGives errand caller.now retry (D.connections dial.old) (D.connections dial.new) (O.contents output.old) result (O.contents output.new) }
+    ensures checked { errand ≡ Errand.Check → IsStoredStatus result → faults.new ≡ faults.old }
     ensures silent { result ≡ Status.Done → faults.new ≡ faults.old }
     ensures status { result ≢ Status.Usage }
 {
@@ -128,6 +130,7 @@ pub fn run_errand<
 ) -> Status
     requires { IsErrand errand }
     ensures gives { AddressGives errand retry (O.contents output.old) result (O.contents output.new) }
+    ensures checked { errand ≡ Errand.Check → IsStoredStatus result → faults.new ≡ faults.old }
     ensures silent { result ≡ Status.Done → faults.new ≡ faults.old }
     ensures status { result ≢ Status.Usage }
 {

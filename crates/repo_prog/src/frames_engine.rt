@@ -53,7 +53,7 @@ pub fn frames<R: Read, W: Write>(
     writer: &mut W,
 ) -> Result<u64, FramesError>
     ensures few { IfOk result (λ count. count < 2 ^ 32) }
-    ensures gives { (input : List ℕ) → R.remaining reader.old ≡ Some input → FramesGive input (W.contents writer.old) result (W.contents writer.new) }
+    ensures gives { (input : List ℕ) → R.remaining reader.old ≡ Some input → FramesGive input (R.remaining reader.new) (W.contents writer.old) result (W.contents writer.new) }
 {
     let mut talk = Talk::new(alloc);
     let mut piece = vec![in alloc; 0u8; PIECE]?;

@@ -10,7 +10,7 @@ Example:
 
 Exit status:
   0  the store is made, and its instance printed
-  1  standard error says why. With `write failed` it may be made; else what was in the folder stays as it was
+  1  standard error says why. With `write failed` or `shelf failed` it may be made; else the folder is as it was
   2  the words make no command, or a number is outside its limits";
 
 /// Below the help of `vault serve`.
@@ -123,7 +123,7 @@ Exit status:
 pub const CHECK: &str = "\
 It reads every snapshot, index and pack, and every directory that a snapshot needs, and changes nothing. Nobody else
 can use the store while it runs. A line for each thing that is at fault:
-  fault THING NAME missing     it is listed, or needed, and isn't there
+  fault THING NAME missing     it is listed, or is a tree that is needed, and isn't there
   fault THING NAME name        its bytes aren't those of its name
   fault THING NAME unreadable  its bytes make no such thing
   fault THING NAME unindexed   a snapshot needs it, and no index tells where it is
@@ -138,7 +138,7 @@ Example:
   vault check 127.0.0.1:7070 --retry 3
 
 Exit status:
-  0  all is well; printed is `clean`, and how many snapshots, indexes, packs and blobs there are
+  0  all is well; printed is `clean`, and how many snapshots, indexes, packs and needed blobs there are
   1  it ended before, and standard error says why
   2  the words make no command
   3  things are at fault, and each is printed";

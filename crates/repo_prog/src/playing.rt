@@ -19,7 +19,7 @@ pub fn play_command<R: Read, W: Write, F: Write>(
     output: &mut W,
     faults: &mut F,
 ) -> Status
-    ensures gives { (text : List ℕ) → R.remaining input.old ≡ Some text → PlayGives text (W.contents output.old) result (W.contents output.new) }
+    ensures gives { (text : List ℕ) → R.remaining input.old ≡ Some text → PlayGives text (W.contents output.old) result (R.remaining input.new) (W.contents output.new) }
     ensures silent { result ≡ Status.Done → faults.new ≡ faults.old }
     ensures status { result ≢ Status.Usage }
 {

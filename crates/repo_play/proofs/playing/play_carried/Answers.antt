@@ -1,4 +1,4 @@
-use Rattle.std.proofs.Common.{◌∙◌, ap, subst}
+use Rattle.std.proofs.Common.{subst}
 use Rattle.std.proofs.lemmas.Result.{err_from_is_err_and}
 use Rattle.repo_play.specs.Plays.{Plays}
 use Rattle.repo_play.specs.declared.grammars.Grammar.{Grammar}
@@ -19,5 +19,5 @@ pub returns-clause-plays : goal.returns-clause-plays
 returns-clause-plays g c = λ input e.
     let start = g.W.Write.contents c.args.writer.now in
     let new = c.in_ok-script.ensures in
-    subst (λ (grammar : Grammar). Plays grammar input start c.play_on.result (g.W.Write.contents c.play_on.new.writer)) new.grammar
+    subst (λ (grammar : Grammar). Plays grammar input (g.R.Read.remaining c.play_on.new.reader) start c.play_on.result (g.W.Write.contents c.play_on.new.writer)) new.grammar
     (c.play_on.ensures.plays input e (begun_stands input start c.in_ok-script.script new.fresh new.cutter new.number))

@@ -1,4 +1,4 @@
-use Rattle.std.proofs.Common.{◌≡◌, ◌∙◌, ◌≤◌, ◌+◌, ◌^◌, Bool, Ok, Err, List, inr, length, refl, subst, arith}
+use Rattle.std.proofs.Common.{◌∙◌, ◌≤◌, ◌^◌, Bool, Ok, Err, inr, length, refl, subst, arith}
 use Rattle.std.proofs.lemmas.Result.{err_from_is_err_and}
 use Rattle.repo_play.specs.Plays.{PlayedSome, Plays}
 use Rattle.repo_play.specs.inner.Scripts.{ReadGives}
@@ -16,7 +16,7 @@ returns-in_err-more-clause-plays g c = λ input e stand.
     let s = c.loop-turn.invariant.stands input e stand in
     let same = c.read_piece.ensures.grammar ∙ c.loop-turn.invariant.grammar in
     let p = err_from_is_err_and c.from_residual.result c.from_residual.ensures.1 in
-    rw (p.1, p.2) (subst (λ (grammar : Grammar). Plays grammar input start (Err c.in_err-more.field-0.0) after) same (c.in_err-more.ensures.gives input s.0 start s.1 s.3))
+    rw (p.1, p.2) (subst (λ (grammar : Grammar). Plays grammar input (g.R.Read.remaining c.read_piece.new.reader) start (Err c.in_err-more.field-0.0) after) same (c.in_err-more.ensures.gives input s.0 start s.1 s.3))
 
 pub returns-then-not-more-clause-plays : goal.returns-then-not-more-clause-plays
 returns-then-not-more-clause-plays g c = λ input e stand.
@@ -26,7 +26,8 @@ returns-then-not-more-clause-plays g c = λ input e stand.
     let P : Bool → Type 0 = λ more. ReadGives input start s.0 (g.R.Read.remaining c.read_piece.new.reader) (Ok more) c.read_piece.new.script after in
     let over = subst P c.if-not-more.true (c.in_ok-more.ensures.gives input s.0 start s.1 s.3) in
     let same = c.read_piece.ensures.grammar ∙ c.loop-turn.invariant.grammar in
-    subst (λ (grammar : Grammar). Plays grammar input start c.finish.result (g.W.Write.contents c.finish.new.writer)) same (c.finish.ensures.gives input start over)
+    let left = g.R.Read.remaining c.read_piece.new.reader in
+    subst (λ (grammar : Grammar). Plays grammar input left start c.finish.result (g.W.Write.contents c.finish.new.writer)) same (c.finish.ensures.gives input left start over)
 
 pub loop-turn-preserved : goal.loop-turn-preserved
 loop-turn-preserved g c = record {

@@ -11,7 +11,7 @@ returns-in_err-piece-clause-gives g c input same =
     let talk = c.new-talk.result in
     let p = err_from_is_err_and c.from_residual.result c.from_residual.ensures.1 in
     let r = begun input start talk (c.new-talk.ensures.talks start) c.new-talk.ensures.line in
-    rw (p.1, p.2) (memory_told input (talk.line.items ++ input) start talk [] nothing start r.are r.talks)
+    rw (p.1, p.2) (memory_told input (talk.line.items ++ input) (g.R.Read.remaining c.args.reader.now) start talk [] nothing start r.are r.talks)
 
 pub loop-turn-init : goal.loop-turn-init
 loop-turn-init g c = record {
@@ -35,7 +35,7 @@ returns-then-not-more-clause-gives g c input same =
     let i = c.loop-turn.invariant.next input same in
     let P : Bool → Type 0 = λ more. FramesPieceGives input start i.0 (g.R.Read.remaining c.read_piece.new.reader) (Ok more) c.read_piece.new.talk (g.W.Write.contents c.read_piece.new.writer) in
     let r = subst P c.if-not-more.true (c.in_ok-more.ensures.next input i.0 start i.3 i.4 i.1 i.5) in
-    c.finish.ensures.ends input start r.0 r.1 r.2
+    c.finish.ensures.ends input _ start r.0 r.1 r.2
 
 pub loop-turn-preserved : goal.loop-turn-preserved
 loop-turn-preserved g c = record {

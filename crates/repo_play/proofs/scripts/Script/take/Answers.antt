@@ -7,7 +7,7 @@ use Rattle.repo_play.proofs.scripts.Script.take.Goals as goal
 pub returns-in_err-feed-clause-gives : goal.returns-in_err-feed-clause-gives
 returns-in_err-feed-clause-gives g c = λ input start ahead h.
     let p = err_from_is_err_and c.from_residual.result c.from_residual.ensures.1 in
-    rw (p.1, p.2) (some_run input start c.args.self.now (c.args.piece.now ++ ahead) (g.W.Write.contents c.args.writer.now) h.0)
+    rw (p.1, p.2) (λ unread. some_run input start c.args.self.now (c.args.piece.now ++ ahead) (g.W.Write.contents c.args.writer.now) h.0)
 
 pub loop-line-init : goal.loop-line-init
 loop-line-init g c = record {
@@ -18,7 +18,7 @@ loop-line-init g c = record {
 pub returns-in_err-line-clause-gives : goal.returns-in_err-line-clause-gives
 returns-in_err-line-clause-gives g c = λ input start ahead h.
     let p = err_from_is_err_and c.from_residual-in_err-line.result c.from_residual-in_err-line.ensures.1 in
-    rw (p.1, p.2) (some_run input start c.loop-line.self ahead (g.W.Write.contents c.loop-line.writer) (c.loop-line.invariant.stands input start ahead h))
+    rw (p.1, p.2) (λ unread. some_run input start c.loop-line.self ahead (g.W.Write.contents c.loop-line.writer) (c.loop-line.invariant.stands input start ahead h))
 
 pub returns-in_err-line-2-clause-gives : goal.returns-in_err-line-2-clause-gives
 returns-in_err-line-2-clause-gives g c = λ input start ahead h.

@@ -6,7 +6,7 @@ use Rattle.repo_prog.proofs.TalkLemmas.{last_goes}
 use Rattle.repo_prog.proofs.talks.Talk.end_last_line.Goals as goal
 
 pub returns-clause-ends : goal.returns-clause-ends
-returns-clause-ends g c input start lines past r =
+returns-clause-ends g c input unread start lines past r =
     let line = c.args.self.now.line.items in
     let P : List ℕ → Type 0 = λ x. AreLines input lines x in
     let some : line ≡ [] → ⊥ = λ none.
@@ -16,4 +16,4 @@ returns-clause-ends g c input start lines past r =
     let not = c.if-is_empty.false in
     absurd (cc (empty, is, not)) in
     let last = last_line input lines line r.line some (subst P (append-nil line) r.are) in
-    last_goes input start c.end_line.new.self (lines ++ line ∷ []) c.end_line.result (g.W.Write.contents c.end_line.new.writer) last (c.end_line.ensures.next input [] start lines past r.talks last)
+    last_goes input unread start c.end_line.new.self (lines ++ line ∷ []) c.end_line.result (g.W.Write.contents c.end_line.new.writer) last (c.end_line.ensures.next input [] unread start lines past r.talks last)
