@@ -16,7 +16,6 @@ from collections import Counter
 from concurrent.futures import ThreadPoolExecutor
 
 import kit
-from libraries import jobs_here
 
 PARTS = ("proof", "tests")
 EDITS = ("all edits", "")
@@ -87,8 +86,6 @@ def edits(crates):
 
 def main():
     os.chdir(os.path.dirname(os.path.dirname(os.path.abspath(__file__))))
-    # as .ci/run says
-    os.environ.setdefault("RT_JOBS", str(jobs_here()))
     rt = kit.load()
     lanes = rt.in_lanes
     rt.in_lanes = lambda tasks: lanes({key: (*task[:3], noting(part_of(key), task[3])) for key, task in tasks.items()})

@@ -4,10 +4,11 @@
 Usage: scripts/libraries.py [--jobs N] [CRATE]
 
 It goes along the crates from below (crates.txt), and works on as many at once as processors and memory allow: one for each
-processor, with 3 GB free for each; --jobs says another number. As rt locks all crates below the one that it works on, each of
-those that are proved at once stands in a copy of the sources of its own, with the libraries below it; what is proved comes back
-into this repository. What was proved before, as it stands now, is passed over. CRATE is the one for which it is done, vault
-without the word; that one itself isn't built. Exit status 1 where a crate isn't proved: what rt said of it is printed.
+processor, with 4 GB free for each; --jobs says another number. Where fewer crates are ready, each gets the processors that are
+left. As rt locks all crates below the one that it works on, each of those that are proved at once stands in a copy of the sources
+of its own, with the libraries below it; what is proved comes back into this repository. What was proved before, as it stands now,
+is passed over. CRATE is the one for which it is done, vault without the word; that one itself isn't built. Exit status 1 where a
+crate isn't proved: what rt said of it is printed.
 """
 import argparse
 import os
@@ -25,8 +26,6 @@ import kit  # noqa: E402
 from graph import below  # noqa: E402
 
 ROOT = Path(__file__).resolve().parents[1]
-# What the proof of a crate may take, in bytes.
-MEMORY = 3_000_000_000
 
 
 def crates_of_file():
@@ -47,15 +46,9 @@ def heights(names, crates):
     return {name: of(name) for name in names}
 
 
-def jobs_here():
-    """As many jobs as this machine has processors and free memory for, at least one."""
-    free = next(int(line.split()[1]) * 1024 for line in open("/proc/meminfo") if line.startswith("MemAvailable:"))
-    return max(1, min(len(os.sched_getaffinity(0)), free // MEMORY))
-
-
 def built():
     """The crates that are proved as they stand."""
-    return {crate.name for crate in kit.load().crates_of(str(ROOT)) if crate.is_built()}
+    return {crate.name for crate in kit.load().rtlib.crates_below(str(ROOT)) if crate.is_built()}
 
 
 class Yard:
@@ -101,13 +94,13 @@ def carries(name, parts, giver, taker):
 class Job:
     """The proof of one crate in a yard, which goes on beside others."""
 
-    def __init__(self, name, crates, yard):
-        self.name, self.yard = name, yard
+    def __init__(self, name, crates, yard, jobs):
+        self.name, self.yard, self.jobs = name, yard, jobs
         for lower in below(crates, name):
             yard.takes(lower, "rlib")
         yard.takes(name, "rlib", "incremental")
         self.begun, self.said = time.monotonic(), tempfile.TemporaryFile()
-        self.process = subprocess.Popen([ROOT / "scripts/rt", "lib", "--jobs", "1"], cwd=yard.top / "crates" / name,
+        self.process = subprocess.Popen([ROOT / "scripts/rt", "lib", "--jobs", str(jobs)], cwd=yard.top / "crates" / name,
                                         stdin=subprocess.DEVNULL, stdout=self.said, stderr=subprocess.STDOUT, start_new_session=True)
 
     def seconds(self):
@@ -127,14 +120,16 @@ class Job:
 def proves(names, crates, yards, done):
     """Proves the crates but for those that are done, one in each yard, those with the longest chains above them first; the one that
     isn't proved, if there is one."""
-    height, left, running = heights(names, crates), set(names) - done, []
+    height, left, running, jobs = heights(names, crates), set(names) - done, [], len(yards)
     try:
         while left or running:
-            ready = [name for name in left if done >= set(crates[name])]
-            for name, yard in zip(sorted(ready, key=lambda name: (-height[name], name)), list(yards)):
+            ready = sorted((name for name in left if done >= set(crates[name])), key=lambda name: (-height[name], name))
+            idle = jobs - sum(job.jobs for job in running)
+            begun = min(len(ready), idle)
+            for at, (name, yard) in enumerate(zip(ready[:begun], list(yards))):
                 left.remove(name)
                 yards.remove(yard)
-                running.append(Job(name, crates, yard))
+                running.append(Job(name, crates, yard, idle // begun + (at < idle % begun)))
             ended = [job for job in running if job.process.poll() is not None]
             for job in ended:
                 running.remove(job)
@@ -161,13 +156,13 @@ def main():
     given, crates = parser.parse_args(), crates_of_file()
     if given.crate not in crates:
         parser.error(f"there is no crate {given.crate}")
-    names, jobs = below(crates, given.crate), given.jobs or jobs_here()
+    names, jobs = below(crates, given.crate), given.jobs or kit.jobs_here()
     done = built() & set(names)
     print(f"proving {len(names) - len(done)} crates of {len(names)}, {jobs} at once: an hour on two processors, where none is proved"
           " yet. Unproved the program runs in a minute and a half: examples/first-frame.sh", flush=True)
     begun = time.monotonic()
     with tempfile.TemporaryDirectory() as top:
-        yards = [Yard(Path(top) / str(place)) for place in range(min(max(1, jobs), len(names) - len(done)))]
+        yards = [Yard(Path(top) / str(place)) for place in range(max(1, jobs))]
         open_one = proves(names, crates, yards, done)
     if open_one:
         print(open_one.text(), end="")

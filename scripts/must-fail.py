@@ -24,7 +24,6 @@ sys.dont_write_bytecode = True
 
 import edits  # noqa: E402
 import kit  # noqa: E402
-from libraries import jobs_here  # noqa: E402
 
 ROOT = os.path.dirname(os.path.dirname(os.path.abspath(__file__)))
 EDITS = f"{ROOT}/must-fail"
@@ -153,7 +152,7 @@ def main():
     if lacking or len(crates) < len(wanted):
         sys.exit(f"no library of {', '.join(lacking)} as it stands: scripts/libraries.py" if lacking else "there is no such crate")
     passed = failed = 0
-    with ThreadPoolExecutor(given.jobs or jobs_here()) as pool:
+    with ThreadPoolExecutor(given.jobs or kit.jobs_here()) as pool:
         for told in pool.map(lambda crate: tried_crate(rt, crate), sorted(crates, key=lambda it: -it.count(rb"\n"))):
             for edit, is_refused, why in told:
                 passed, failed = passed + is_refused, failed + (not is_refused)
