@@ -32,6 +32,6 @@ reading_puts c (Ask.Upgrade t) es h j = refl
 
 -- ---- on what a backup goes on
 
--- a reply to a request for indexes, where it is wanted
-pub reading_follows : (known : ℕ) (notes : Bool) (c : Catalog) (ask : Ask) (say : Say) (es : Trace) → KnowsIndexes c ask es → IsWelcome (silent ask say) → MayFollow known notes (silent ask say)
+-- a reply to a request for indexes, where it is welcome
+pub reading_follows : (known : ℕ) (notes : Bool) (c : Catalog) (ask : Ask) (say : Say) (es : Trace) → KnowsIndexes c ask es → IsWelcome known (silent ask say) → MayFollow known notes (silent ask say)
 reading_follows known notes c ask say es knows welcome = welcome_follows known notes (silent ask say) (indexes_understood known c ask say es knows) welcome

@@ -80,7 +80,7 @@ module _ (task : Task) (token : Token) (rounds : RoundsView) (walk : WalkView) (
 
 -- ---- which round a request is of
 
-no_range : (ask : Ask) (rounds : RoundsView) (walk : WalkView) (es : Trace) (P : Type 0) → ((pack : Name) (offset len : ℕ) → ask ≡ Ask.Range pack offset len → ⊥) → AtTrees rounds walk ask es → P
+pub no_range : (ask : Ask) (rounds : RoundsView) (walk : WalkView) (es : Trace) (P : Type 0) → ((pack : Name) (offset len : ℕ) → ask ≡ Ask.Range pack offset len → ⊥) → AtTrees rounds walk ask es → P
 no_range ask rounds walk es P not at = absurd (not at.fact.place.pack at.fact.place.offset at.fact.place.length at.asked)
 
 module _ (rounds : RoundsView) (walk : WalkView) (es : Trace) where

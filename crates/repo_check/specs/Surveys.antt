@@ -161,6 +161,17 @@ IsEndNext known ask say Next.Version = IsOfOtherVersion known ask say
 IsEndNext known ask say Next.Away = ⊤
 IsEndNext known ask say _ = ⊥
 
+-- the last name of a kind so far
+abbrev pub last_in : RoundsView → Kind → Option Name
+last_in rounds Kind.Pack = last_of rounds.packs.names
+last_in rounds Kind.Index = last_of rounds.indexes.names
+last_in rounds Kind.Snapshot = last_of rounds.snapshots.names
+
+-- a page is asked for behind the last name of its kind
+abbrev pub IsPageBehind : RoundsView → Ask → Type 0
+IsPageBehind rounds (Ask.List k after) = after ≡ last_in rounds k
+IsPageBehind rounds _ = ⊤
+
 -- where a check ends at once on the reply, what comes next ends the survey by that
 abbrev pub HeedsNext : ℕ → Ask → Say → Next → Type 0
 HeedsNext known ask say next = EndsAtOnce known true (silent ask say) → IsEndNext known ask say next

@@ -14,7 +14,7 @@ use repo_tree::Config;
 use repo_wire::{Ask, Say};
 use std::alloc::{AllocError, Global};
 
-/// The job of a client `Session<Check>` that says whether every snapshot of a store can be restored, and else what is wrong: it reads all snapshots,
+/// The job of a client `Session<Check>` that says that every snapshot of a store can be restored, or what is at fault: it reads all snapshots,
 /// indexes and packs, and the trees that the snapshots reach, each once and from its least place. Where something is
 /// missing or bad it goes on. Its outcome is `Clean`, or `Faults` with just the things that are at fault, each once and in
 /// order; a snapshot or a config of a version that isn't known ends it with `Version`.

@@ -1,9 +1,9 @@
-//! The check of a store: whether every snapshot can be restored, and else what is wrong.
+//! The check of a store: that every snapshot can be restored, or what is at fault.
 //!
 //! What a check may ask, and how it may end, are definitions: it reads alone, of places those of trees, and asks for no object again, nor for a
 //! place that is one tree's; `Clean` comes only where all was received and each thing is found well, `Faults` only with just the
-//! things that are at fault, each once and in order. What is found of a thing goes by what was received, and one thing is
-//! found of each ([`found_once`]); whatever was said to a request counts as received ([`heard_once`]). A snapshot of a
+//! things that are at fault, each once and in order. What is found of a thing goes by what was received, and no more than
+//! one thing is found of each ([`found_once`]); whatever was said to a request counts as received ([`heard_once`]). A snapshot of a
 //! version that isn't known is no fault: it ends the check.
 //!
 //! [`Check`] is the job, and `Session<Check>` its client. Its survey receives all that a check needs: the objects, kind by kind, each noted as well or at

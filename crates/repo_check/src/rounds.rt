@@ -4,6 +4,7 @@ ghost use Rattle.std.specs.Prelude.{◌≡◌, ◌≤◌, ◌++◌, ◌∷◌, [
 ghost use Rattle.repo_name.specs.declared.kinds.Kind.{Kind};
 ghost use Rattle.repo_name.specs.declared.names.Name.{Name};
 ghost use Rattle.repo_wire.specs.declared.messages.Ask.{Ask};
+ghost use Rattle.repo_session.specs.Order.{last_of};
 ghost use Rattle.repo_check.specs.Rounds.{IsFreshRound, PagesRound, HeedsTurn, IsShortTurn, AsksNext, round_of};
 ghost use Rattle.repo_check.specs.declared.rounds.Note.{Note};
 ghost use Rattle.repo_check.specs.declared.rounds.Turn.{Turn};
@@ -106,7 +107,7 @@ impl<T: Drop> Round<T> {
     /// Takes the reply to the request for a page. It fails for memory alone, and then nothing changed.
     pub fn take_page(&mut self, say: &Say) -> Result<Turn, AllocError>
         ensures pages { IfOk result (λ turn. PagesRound (round_of self.old) say.now turn (round_of self.new)) }
-        ensures heeds { IfOk result (λ turn. (known : ℕ) (kind : Kind) (after : Option Name) → HeedsTurn known (Ask.List kind after) say.now turn) }
+        ensures heeds { IfOk result (λ turn. (known : ℕ) (kind : Kind) (after : Option Name) → after ≡ last_of self.old.roll.names.items → HeedsTurn known (Ask.List kind after) say.now turn) }
         ensures short { IfOk result IsShortTurn }
         ensures same { OnErr result (round_of self.new ≡ round_of self.old) }
         ensures notes { self.new.notes ≡ self.old.notes }

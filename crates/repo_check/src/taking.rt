@@ -13,7 +13,7 @@ ghost use Rattle.repo_index.specs.declared.facts.Fact.{Fact};
 ghost use Rattle.repo_check.specs.Walks.{walk_of};
 ghost use Rattle.repo_check.specs.declared.rounds.Turn.{Turn};
 ghost use Rattle.repo_check.specs.declared.surveys.Next.{Next};
-ghost use Rattle.repo_check.specs.Surveys.{WalkBegins, GoesAfter, GoesToTrees, WalkHasBegun, HeedsNext, IsShortNext, SurveyHasTaken, SurveyKnows, SurveyTakes, SurveyTakesBy, next_of, rounds_of, StaysAtPage, StaysAtTree};
+ghost use Rattle.repo_check.specs.Surveys.{WalkBegins, GoesAfter, GoesToTrees, WalkHasBegun, HeedsNext, IsPageBehind, IsShortNext, SurveyHasTaken, SurveyKnows, SurveyTakes, SurveyTakesBy, last_in, next_of, rounds_of, StaysAtPage, StaysAtTree};
 
 use crate::gathering::{lookup_of, visits_of};
 use crate::knowing::note_of;
@@ -58,7 +58,7 @@ impl Survey {
     /// Takes the reply to the request for a page of snapshots. It fails for memory alone, and then nothing changed.
     fn take_snapshot_page(&mut self, say: &Say) -> Result<Next, AllocError>
         ensures takes { IfOk result (λ next. (after : Option Name) → SurveyTakes self.old (Ask.List Kind.Snapshot after) say.now next self.new) }
-        ensures heeds { IfOk result (λ next. (known : ℕ) (after : Option Name) → HeedsNext known (Ask.List Kind.Snapshot after) say.now next) }
+        ensures heeds { IfOk result (λ next. (known : ℕ) (after : Option Name) → after ≡ last_of self.old.snapshots.roll.names.items → HeedsNext known (Ask.List Kind.Snapshot after) say.now next) }
         ensures more { IfOk result (λ next. next ≢ Next.Over) }
         ensures short { IfOk result IsShortNext }
         ensures same { OnErr result (rounds_of self.new ≡ rounds_of self.old) }
@@ -90,7 +90,7 @@ impl Survey {
     /// Takes the reply to the request for a page of indexes. It fails for memory alone, and then nothing changed.
     fn take_index_page(&mut self, say: &Say) -> Result<Next, AllocError>
         ensures takes { IfOk result (λ next. (after : Option Name) → SurveyTakes self.old (Ask.List Kind.Index after) say.now next self.new) }
-        ensures heeds { IfOk result (λ next. (known : ℕ) (after : Option Name) → HeedsNext known (Ask.List Kind.Index after) say.now next) }
+        ensures heeds { IfOk result (λ next. (known : ℕ) (after : Option Name) → after ≡ last_of self.old.indexes.roll.names.items → HeedsNext known (Ask.List Kind.Index after) say.now next) }
         ensures more { IfOk result (λ next. next ≢ Next.Over) }
         ensures short { IfOk result IsShortNext }
         ensures same { OnErr result (rounds_of self.new ≡ rounds_of self.old) }
@@ -155,7 +155,7 @@ impl Survey {
     /// Takes the reply to the request for a page of packs. It fails for memory alone, and then nothing changed.
     fn take_pack_page(&mut self, say: &Say) -> Result<Next, AllocError>
         ensures takes { IfOk result (λ next. (after : Option Name) → SurveyTakes self.old (Ask.List Kind.Pack after) say.now next self.new) }
-        ensures heeds { IfOk result (λ next. (known : ℕ) (after : Option Name) → HeedsNext known (Ask.List Kind.Pack after) say.now next) }
+        ensures heeds { IfOk result (λ next. (known : ℕ) (after : Option Name) → after ≡ last_of self.old.packs.roll.names.items → HeedsNext known (Ask.List Kind.Pack after) say.now next) }
         ensures over { IfOk result (λ next. next ≡ Next.Over → (after : Option Name) → SurveyHasTaken self.old (Ask.List Kind.Pack after) self.new) }
         ensures short { IfOk result IsShortNext }
         ensures same { OnErr result (StaysAtPage Kind.Pack self.old self.new) }
@@ -204,7 +204,7 @@ impl Survey {
     /// Takes the reply to the request for a page of a kind. It fails for memory alone, and then what was known is known.
     fn take_page(&mut self, kind: Kind, say: &Say) -> Result<Next, AllocError>
         ensures takes { IfOk result (λ next. (after : Option Name) → SurveyTakes self.old (Ask.List kind after) say.now next self.new) }
-        ensures heeds { IfOk result (λ next. (known : ℕ) (after : Option Name) → HeedsNext known (Ask.List kind after) say.now next) }
+        ensures heeds { IfOk result (λ next. (known : ℕ) (after : Option Name) → after ≡ last_in (rounds_of self.old) kind → HeedsNext known (Ask.List kind after) say.now next) }
         ensures over { IfOk result (λ next. next ≡ Next.Over → (after : Option Name) → SurveyHasTaken self.old (Ask.List kind after) self.new) }
         ensures short { IfOk result IsShortNext }
         ensures same { OnErr result (StaysAtPage kind self.old self.new) }
@@ -242,7 +242,7 @@ impl Survey {
     /// known is known.
     pub fn take(&mut self, versions: Versions, ask: &Ask, say: &Say) -> Result<Next, AllocError>
         ensures takes { IfOk result (λ next. SurveyTakesBy versions self.old ask.now say.now next self.new) }
-        ensures heeds { IfOk result (HeedsNext (upto versions) ask.now say.now) }
+        ensures heeds { IfOk result (λ next. IsPageBehind (rounds_of self.old) ask.now → HeedsNext (upto versions) ask.now say.now next) }
         ensures over { IfOk result (λ next. next ≡ Next.Over → SurveyHasTaken self.old ask.now self.new) }
         ensures short { IfOk result IsShortNext }
         ensures knows { OnErr result ((es : Trace) → SurveyKnows self.old ask.now es → SurveyKnows self.new ask.now es) }

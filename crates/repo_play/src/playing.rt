@@ -79,7 +79,7 @@ fn play_carried<C: Carrier + Drop, R: Read, W: Write>(
     play_on(&mut script, piece.as_mut_slice(), reader, writer)
 }
 
-/// Plays a script: reads its lines, runs each over a store in memory, and writes what it prints before the next one is read.
+/// Plays a script: reads its lines, runs each over a store in memory, and writes what it prints before the next one is run.
 ///
 /// See [`PlayError`] for when each error comes.
 pub fn play<R: Read, W: Write>(

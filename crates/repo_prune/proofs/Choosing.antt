@@ -15,7 +15,7 @@ use Rattle.repo_wire.specs.declared.messages.Say.{Say}
 use Rattle.repo_session.specs.declared.jobs.Step.{Step}
 use Rattle.repo_session.specs.Askers.{Asker, Holding}
 use Rattle.repo_session.specs.Deletions.{DeleteDone, NoneDeleted}
-use Rattle.repo_session.specs.Jobs.{MayAsk, StepsOn}
+use Rattle.repo_session.specs.Jobs.{HeedsReply, MayAsk, StepsOn}
 use Rattle.repo_session.specs.Listings.{IsSnapshotListing, KnowsSnapshots}
 use Rattle.repo_session.specs.Order.{IsWorking, ReadsKind}
 use Rattle.repo_session.specs.Readings.{IsAskDue, KnowsRoll}
@@ -237,6 +237,21 @@ steps_by_names old holding (Ask.Refresh t time) say step new names is other h = 
 steps_by_names old holding (Ask.Unlock t) say step new names is other h = λ es w obeys asked. absurd asked.allowed.0
 steps_by_names old holding Ask.Locks say step new names is other h = λ es w obeys asked. absurd asked.allowed.0
 steps_by_names old holding Ask.Config say step new names is other h = λ es w obeys asked. absurd asked.allowed.0
+
+pub heeds_by_names : (old : Forget) (holding : Holding) (ask : Ask) (say : Say) (step : Step) (names : List Name) → old.choice ≡ Choice.Names names → IsNoDelete ask
+    → ((kind : Kind) (after : Option Name) → HeedsReply (forget_rule old.choice) holding (KnowsReading old) (silent (Ask.List kind after) say) step) → HeedsReply (forget_rule old.choice) holding (KnowsForget old) (silent ask say) step
+heeds_by_names old holding (Ask.List k after) say step names is other h = λ es w obeys asked. h k after es w obeys (reading_asked old holding.who (Ask.List k after) es other asked)
+heeds_by_names old holding (Ask.Get k n) say step names is other h = λ es w obeys asked. absurd (subst GoesByPolicy is asked.allowed.2)
+heeds_by_names old holding (Ask.Delete t k n) say step names is other h = absurd (other t k n refl)
+heeds_by_names old holding (Ask.Range pack offset len) say step names is other h = λ es w obeys asked. absurd asked.allowed.0
+heeds_by_names old holding (Ask.Upgrade t) say step names is other h = λ es w obeys asked. absurd asked.allowed.0
+heeds_by_names old holding (Ask.Put t k n x) say step names is other h = λ es w obeys asked. absurd asked.allowed.0
+heeds_by_names old holding Ask.Ticket say step names is other h = λ es w obeys asked. absurd asked.allowed.0
+heeds_by_names old holding (Ask.Lock row) say step names is other h = λ es w obeys asked. absurd asked.allowed.0
+heeds_by_names old holding (Ask.Refresh t time) say step names is other h = λ es w obeys asked. absurd asked.allowed.0
+heeds_by_names old holding (Ask.Unlock t) say step names is other h = λ es w obeys asked. absurd asked.allowed.0
+heeds_by_names old holding Ask.Locks say step names is other h = λ es w obeys asked. absurd asked.allowed.0
+heeds_by_names old holding Ask.Config say step names is other h = λ es w obeys asked. absurd asked.allowed.0
 
 -- by a policy it reads
 goes_by_policy : (choice : Choice) → ((names : List Name) → choice ≢ Choice.Names names) → GoesByPolicy choice

@@ -14,7 +14,7 @@ use Rattle.repo_session.specs.declared.outcomes.Outcome.{Outcome}
 use Rattle.repo_session.specs.declared.snapshot_rolls.SnapshotReading.{SnapshotReading}
 use Rattle.repo_session.specs.declared.snapshot_rolls.SnapshotRoll.{SnapshotRoll}
 use Rattle.repo_session.specs.declared.versions.Versions.{Versions}
-use Rattle.repo_session.specs.Ends.{EndsAtOnce, IsWelcome}
+use Rattle.repo_session.specs.Ends.{IsSenseless, IsUnwelcome, IsWelcome}
 use Rattle.repo_session.specs.Jobs.{HeedsOn, IsEndStep}
 use Rattle.repo_session.specs.Listings.{KnowsSnapshots, ListsAll, ListsOn}
 use Rattle.repo_session.specs.Order.{Task, IsWorking, May}
@@ -22,9 +22,7 @@ use Rattle.repo_session.specs.Readings.{KnowsIndexes}
 use Rattle.repo_session.specs.Traces.{Exchange, Trace, silent}
 use Rattle.repo_session.specs.Versions.{upto}
 use Rattle.repo_session.proofs.Heeding.{heeds_end, heeds_follow, indexes_understood, welcome_follows}
-use Rattle.repo_prune.specs.inner.Sorts.{IsPage}
-use Rattle.repo_prune.specs.PruneStates.{IsListingOf}
-use Rattle.repo_prune.specs.Pruning.{PruneMay}
+use Rattle.repo_prune.specs.inner.Sorts.{IsBytes}
 
 -- ---- while snapshots are listed and read
 
@@ -57,32 +55,22 @@ listing_heeds versions own old new ask say reading task token es step same lists
 
 -- ---- while indexes are listed and read
 
-pub index_heeds : (known : ℕ) (c : Catalog) (ask : Ask) (say : Say) (es : Trace) (step : Step) → KnowsIndexes c ask es → IsWelcome (silent ask say) → HeedsOn known false (silent ask say) step
+pub index_heeds : (known : ℕ) (c : Catalog) (ask : Ask) (say : Say) (es : Trace) (step : Step) → KnowsIndexes c ask es → IsWelcome known (silent ask say) → HeedsOn known false (silent ask say) step
 index_heeds known c ask say es step h welcome = heeds_follow known false (silent ask say) step (welcome_follows known false (silent ask say) (indexes_understood known c ask say es h) welcome)
 
--- ---- while packs are listed
+-- ---- on a page that is welcome it goes on
 
--- on a page of names it goes on
-page_follows : (known : ℕ) (kind : Kind) (after : Option Name) (say : Say) → IsPage say → EndsAtOnce known false (silent (Ask.List kind after) say) → ⊥
-page_follows known kind after (Say.Names more names) page (inl other) = other
-page_follows known kind after (Say.Names more names) page (inr passed) = passed tt
-page_follows known kind after (Say.Token t) page ends = (let is = page.2 in absurd (cc))
-page_follows known kind after Say.Done page ends = (let is = page.2 in absurd (cc))
-page_follows known kind after (Say.Bytes x) page ends = (let is = page.2 in absurd (cc))
-page_follows known kind after (Say.LockList rows) page ends = (let is = page.2 in absurd (cc))
-page_follows known kind after (Say.Refused code) page ends = (let is = page.2 in absurd (cc))
+pub page_heeds : (known : ℕ) (kind : Kind) (after : Option Name) (say : Say) (step : Step) → IsWelcome known (silent (Ask.List kind after) say) → HeedsOn known false (silent (Ask.List kind after) say) step
+page_heeds known kind after say step welcome = heeds_follow known false (silent (Ask.List kind after) say) step (welcome_follows known false (silent (Ask.List kind after) say) (λ other. other) welcome)
 
-pub page_heeds : (known : ℕ) (ask : Ask) (say : Say) (step : Step) (es : Trace) → IsListingOf Kind.Pack ask → PruneMay es ask → (step ≡ Step.Away) ⊎ IsPage say → HeedsOn known false (silent ask say) step
-page_heeds known ask say step es listing may (inl away) = λ ends. subst (IsEndStep known (silent ask say)) (sym away) tt
-page_heeds known (Ask.List kind after) say step es listing may (inr page) = λ ends. absurd (page_follows known kind after say page ends)
-page_heeds known (Ask.Get kind n) say step es listing may (inr page) = λ ends. absurd (may.1 listing)
-page_heeds known (Ask.Range pack offset len) say step es listing may (inr page) = absurd listing
-page_heeds known (Ask.Put token kind n x) say step es listing may (inr page) = absurd listing
-page_heeds known (Ask.Delete token kind n) say step es listing may (inr page) = absurd listing
-page_heeds known (Ask.Upgrade token) say step es listing may (inr page) = absurd listing
-page_heeds known Ask.Ticket say step es listing may (inr page) = absurd listing
-page_heeds known (Ask.Lock row) say step es listing may (inr page) = absurd listing
-page_heeds known (Ask.Refresh token time) say step es listing may (inr page) = absurd listing
-page_heeds known (Ask.Unlock token) say step es listing may (inr page) = absurd listing
-page_heeds known Ask.Locks say step es listing may (inr page) = absurd listing
-page_heeds known Ask.Config say step es listing may (inr page) = absurd listing
+-- ---- on the bytes of a part of a pack it goes on, whatever they are
+
+pub part_heeds : (known : ℕ) (pack : Name) (offset len : ℕ) (say : Say) (step : Step) → (step ≡ Step.Away) ⊎ IsBytes say → HeedsOn known false (silent (Ask.Range pack offset len) say) step
+part_heeds known pack offset len say step (inl away) = λ ends. subst (IsEndStep known (silent (Ask.Range pack offset len) say)) (sym away) tt
+part_heeds known pack offset len say step (inr (x, is)) =
+    let asked : Ask = Ask.Range pack offset len in
+    heeds_follow known false (silent asked say) step (welcome_follows known false (silent asked say) (λ other. other) (record {
+      wanted = λ w. subst (λ s. IsUnwelcome asked s) is w tt;
+      sensible = λ u. subst (λ s. IsSenseless known asked s) is u tt;
+      good = λ thing name bad. bad;
+    }))

@@ -23,7 +23,7 @@ use Rattle.repo_session.proofs.Rolling.{same_self}
 use Rattle.repo_session.proofs.Deleting.{ListsNone, listing_stays}
 use Rattle.repo_prune.specs.Keeping.{Row}
 use Rattle.repo_prune.specs.Pruning.{prune_rule, prune_task, IsReadInTurn, IsWanted, PruneAllows}
-use Rattle.repo_prune.specs.PruneStates.{Known, HasOnlyListed, HaveRead, HasTarget, AreUnlisted, ReadsSnapshots, ReadsIndexes, ListsPacks, IsListingOf, KnowsPrune, KnowsStage, IsNextStep, KnowsAsMuch, StepsFrom, known_in}
+use Rattle.repo_prune.specs.PruneStates.{Known, HasOnlyListed, HaveRead, HasTarget, AreUnlisted, ReadsSnapshots, ReadsIndexes, ListsPacks, IsListingOf, KnowsPrune, KnowsStage, IsNextStep, KnowsAsMuch, HeedsFrom, StepsFrom, known_in}
 use Rattle.repo_prune.specs.declared.prunes.Onward.{Onward}
 use Rattle.repo_prune.specs.declared.prunes.Prune.{Prune}
 use Rattle.repo_prune.specs.declared.prunes.Stage.{Stage}
@@ -376,6 +376,20 @@ steps_listing old token (Ask.Refresh t time) say step new h is = absurd is
 steps_listing old token (Ask.Unlock t) say step new h is = absurd is
 steps_listing old token Ask.Locks say step new h is = absurd is
 steps_listing old token Ask.Config say step new h is = absurd is
+
+pub heeds_listing : (old : Prune) (token : Token) (ask : Ask) (say : Say) (step : Step) → ((after : Option Name) → HeedsFrom old token (Ask.List Kind.Pack after) say step) → IsListingOf Kind.Pack ask → HeedsFrom old token ask say step
+heeds_listing old token (Ask.List i after) say step h is = subst (λ k. HeedsFrom old token (Ask.List k after) say step) (sym is) (h after)
+heeds_listing old token (Ask.Get i n) say step h is = λ who es w obeys asked. absurd (asked.allowed.1.1 is)
+heeds_listing old token (Ask.Range pack offset len) say step h is = absurd is
+heeds_listing old token (Ask.Put t i n x) say step h is = absurd is
+heeds_listing old token (Ask.Delete t i n) say step h is = absurd is
+heeds_listing old token (Ask.Upgrade t) say step h is = absurd is
+heeds_listing old token Ask.Ticket say step h is = absurd is
+heeds_listing old token (Ask.Lock row) say step h is = absurd is
+heeds_listing old token (Ask.Refresh t time) say step h is = absurd is
+heeds_listing old token (Ask.Unlock t) say step h is = absurd is
+heeds_listing old token Ask.Locks say step h is = absurd is
+heeds_listing old token Ask.Config say step h is = absurd is
 
 pub knows_listing : (old : Prune) (ask : Ask) (new : Prune) → ((after : Option Name) → KnowsAsMuch old (Ask.List Kind.Pack after) new) → IsListingOf Kind.Pack ask → KnowsAsMuch old ask new
 knows_listing old (Ask.List i after) new h is = subst (λ k. KnowsAsMuch old (Ask.List k after) new) (sym is) (h after)

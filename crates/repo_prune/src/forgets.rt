@@ -1,6 +1,6 @@
 //! The forgetting of a store's snapshots.
 
-ghost use Rattle.std.specs.Prelude.{◌≡◌, ◌⊎◌, ◌↔◌, [], IfOk, OnErr, IsErr};
+ghost use Rattle.std.specs.Prelude.{◌≡◌, ◌⊎◌, ◌↔◌, [], Option, IfOk, OnErr, IsErr};
 ghost use Rattle.repo_name.specs.declared.kinds.Kind.{Kind};
 ghost use Rattle.repo_name.specs.declared.names.Name.{Name};
 ghost use Rattle.repo_wire.specs.declared.messages.Ask.{Ask};
@@ -13,7 +13,6 @@ ghost use Rattle.repo_session.specs.declared.jobs.Step.{Step};
 ghost use Rattle.repo_prune.specs.declared.choices.Choice.{Choice};
 ghost use Rattle.repo_prune.specs.Forgetting.{AreChosenOf, IsNoPolicy, WouldForget, forget_rule};
 ghost use Rattle.repo_prune.specs.ForgetStates.{FitsForget, IsFreshForget, KnowsDelete, KnowsForget, KnowsReading, ForgetBegins, ForgetGoesOn, ReadsOnByPolicy, TakesPageByNames, choice_of};
-ghost use Rattle.repo_prune.specs.inner.Sorts.{IsPage};
 
 use crate::choices::{Choice, ForgetError};
 use crate::picking::{chosen, would_forget};
@@ -148,7 +147,7 @@ impl Forget {
     /// known is known.
     fn take_page(&mut self, holder: &Holder, say: &Say) -> Result<Step, AllocError>
         ensures steps { IfOk result (λ step. TakesPageByNames self.old holder.now say.now step self.new) }
-        ensures heeds { IfOk result (λ step. (step ≡ Step.Away) ⊎ IsPage say.now) }
+        ensures heeds { IfOk result (λ step. (kind : Kind) (after : Option Name) → HeedsReply (forget_rule self.old.choice) holder.now (KnowsReading self.old) (silent (Ask.List kind after) say.now) step) }
         ensures short { IfOk result IsShortStep }
         ensures knows { OnErr result (KnowsAsMuch self.old.snapshots self.new.snapshots) }
         ensures choice { self.new.choice ≡ self.old.choice }

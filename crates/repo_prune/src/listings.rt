@@ -1,14 +1,12 @@
 //! The listing and reading of a store, as a prune does it.
 
-ghost use Rattle.std.specs.Prelude.{◌≡◌, ◌⊎◌, Option, IfOk, OnErr};
+ghost use Rattle.std.specs.Prelude.{◌≡◌, Option, IfOk, OnErr};
 ghost use Rattle.repo_name.specs.declared.kinds.Kind.{Kind};
 ghost use Rattle.repo_name.specs.declared.names.Name.{Name};
 ghost use Rattle.repo_name.specs.declared.tokens.Token.{Token};
 ghost use Rattle.repo_wire.specs.declared.messages.Ask.{Ask};
 ghost use Rattle.repo_session.specs.Jobs.{IsShortStep};
-ghost use Rattle.repo_session.specs.declared.jobs.Step.{Step};
 ghost use Rattle.repo_prune.specs.PruneStates.{IsListingOf, StepsFor, StepsFrom, HeedsFor, HeedsFrom, KnowsAsMuch};
-ghost use Rattle.repo_prune.specs.inner.Sorts.{IsPage};
 
 use crate::advancing::end;
 use crate::prunes::Prune;
@@ -61,7 +59,7 @@ impl Prune {
     /// Takes the reply to the request for a page of packs. It fails for memory alone, and then what was known is known.
     fn take_page(&mut self, token: Token, say: &Say) -> Result<Step, AllocError>
         ensures steps { IfOk result (λ step. (after : Option Name) → StepsFrom self.old token (Ask.List Kind.Pack after) say.now step self.new) }
-        ensures heeds { IfOk result (λ step. (step ≡ Step.Away) ⊎ IsPage say.now) }
+        ensures heeds { IfOk result (λ step. (after : Option Name) → HeedsFrom self.old token (Ask.List Kind.Pack after) say.now step) }
         ensures short { IfOk result IsShortStep }
         ensures knows { OnErr result ((after : Option Name) → KnowsAsMuch self.old (Ask.List Kind.Pack after) self.new) }
     {

@@ -16,7 +16,7 @@ use Rattle.repo_restore.specs.RestoreStates.{KnowsAtStage, RestoreHeeds}
 use Rattle.repo_index.specs.declared.facts.Fact.{Fact}
 
 part_follows : (known : ℕ) (notes : Bool) (pack : Name) (offset len : ℕ) (x : List ℕ) (emitted : List Emission) → MayFollow known notes (giving (Ask.Range pack offset len) (Say.Bytes x) emitted)
-part_follows known notes pack offset len x emitted = welcome_follows known notes (giving (Ask.Range pack offset len) (Say.Bytes x) emitted) (λ o. o) (λ w. w tt)
+part_follows known notes pack offset len x emitted = welcome_follows known notes (giving (Ask.Range pack offset len) (Say.Bytes x) emitted) (λ o. o) (record { wanted = λ w. w tt; sensible = λ u. u tt; good = λ thing name bad. bad })
 
 -- the bytes of a blob that was asked for
 pub blob_heeds : (old new : Restore) (fact : Fact) (version : ℕ) (ask : Ask) (say : Say) (x : List ℕ) (step : Step) → old.stage ≡ Stage.Walk fact version → say ≡ Say.Bytes x → RestoreHeeds old ask say step new

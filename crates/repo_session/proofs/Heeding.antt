@@ -1,5 +1,5 @@
 -- What a job ends at once on, and on what it goes on.
-use Rattle.std.proofs.Common.{arith, ◌≡◌, ◌≢◌, ◌⊎◌, ◌∷◌, [], ℕ, Bool, List, Option, Some, None, refl, sym, subst, inl, inr, ⊎_elim, ◌∙◌}
+use Rattle.std.proofs.Common.{arith, ◌≡◌, ◌≢◌, ◌⊎◌, ◌∷◌, [], ℕ, Bool, true, false, List, Option, Some, None, refl, sym, subst, inl, inr, ⊎_elim, ◌∙◌}
 use Rattle.std.proofs.lemmas.Option.{same_Some}
 use Rattle.repo_name.specs.Naming as naming
 use Rattle.repo_name.specs.declared.kinds.Kind.{Kind}
@@ -11,14 +11,16 @@ use Rattle.repo_tree.specs.declared.faults.TextError.{TextError}
 use Rattle.repo_tree.specs.ConfigText.{ConfigFault, HasConfig, MissesConfig}
 use Rattle.repo_tree.specs.SnapshotText.{SnapshotFault, MissesSnapshot}
 use Rattle.repo_tree.specs.Versions.{IsKnownTo}
+use Rattle.repo_store.specs.Pages.{PageRises}
+use Rattle.repo_session.specs.declared.emissions.Emission.{Emission}
 use Rattle.repo_session.specs.declared.outcomes.End.{End}
 use Rattle.repo_session.specs.declared.outcomes.Outcome.{Outcome}
-use Rattle.repo_session.specs.Ends.{AreHeeded, CausedBy, IsBad, IsOfOtherVersion, IsSenseless, IsUnreadable, IsUnwelcome, IsWelcome, MayFollow, before_unlock}
+use Rattle.repo_session.specs.Ends.{AreHeeded, CausedBy, IsBad, IsOfOtherVersion, IsSenseless, IsUnreadable, IsUnwelcome, IsUseless, IsWelcome, MayFollow, before_unlock}
 use Rattle.repo_session.specs.Jobs.{HeedsOn}
 use Rattle.repo_session.specs.declared.jobs.Step.{Step}
 use Rattle.repo_session.specs.Lines.{or_spent}
 use Rattle.repo_session.specs.Readings.{KnowsIndexes}
-use Rattle.repo_session.specs.Traces.{Each, Exchange, Trace}
+use Rattle.repo_session.specs.Traces.{Each, Exchange, Trace, giving}
 use Rattle.repo_session.specs.declared.catalogs.Catalog.{Catalog}
 use Rattle.repo_session.proofs.GoingOn.{unwelcome_of}
 
@@ -106,9 +108,33 @@ names_wanted kind after say is w = subst (λ s. IsUnwelcome (Ask.List kind after
 pub bytes_wanted : (kind : Kind) (name : Name) (say : Say) (x : List ℕ) → say ≡ Say.Bytes x → ¬ IsUnwelcome (Ask.Get kind name) say
 bytes_wanted kind name say x is w = subst (λ s. IsUnwelcome (Ask.Get kind name) s) is w tt
 
--- a reply that is wanted, and isn't of a version that isn't known
-pub welcome_follows : (known : ℕ) (notes : Bool) (e : Exchange) → ¬ IsOfOtherVersion known e.ask e.say → IsWelcome e → MayFollow known notes e
-welcome_follows known notes e understood welcome ends = ⊎_elim understood (λ passed. welcome (unwelcome_of notes e.ask e.say passed)) ends
+-- so by a page that rises behind the last name, and by the bytes of an object that have its name and are one
+pub page_welcome : {more : Bool} {names : List Name} (known : ℕ) (kind : Kind) (after last : Option Name) (say : Say) (emitted : List Emission) → say ≡ Say.Names more names → after ≡ last → PageRises last more names
+    → IsWelcome known (giving (Ask.List kind after) say emitted)
+page_welcome {more} {names} known kind after last say emitted is behind rises = record {
+  wanted = names_wanted kind after say is;
+  sensible = λ s. (subst (λ x. IsSenseless known (Ask.List kind after) x) is s) (subst (λ a. PageRises a more names) (sym behind) rises);
+  good = λ thing name bad. bad;
+}
+
+pub object_welcome : (known : ℕ) (kind : Kind) (name : Name) (say : Say) (x : List ℕ) (emitted : List Emission) → say ≡ Say.Bytes x → naming.name x ≡ name → ¬ IsUnreadable known kind x
+    → IsWelcome known (giving (Ask.Get kind name) say emitted)
+object_welcome known kind name say x emitted is named reads = record {
+  wanted = bytes_wanted kind name say x is;
+  sensible = λ s. subst (λ y. IsSenseless known (Ask.Get kind name) y) is s tt;
+  good = λ thing n bad. (
+      let q : bad.0 ≡ x = cc in
+      ⊎_elim (λ other. other (subst (λ y. naming.name y ≡ name) (sym q) named)) (λ unreadable. reads (subst (λ y. IsUnreadable known kind y) q unreadable)) bad.4);
+}
+
+-- a reply that is welcome, and isn't of a version that isn't known
+useful : (known : ℕ) (notes : Bool) (e : Exchange) → IsWelcome known e → ¬ IsUseless known notes e.ask e.say
+useful known false e welcome useless = ⊎_elim welcome.sensible (λ bad. welcome.good bad.0 bad.1 bad.2) useless
+useful known true e welcome useless = welcome.sensible useless
+
+pub welcome_follows : (known : ℕ) (notes : Bool) (e : Exchange) → ¬ IsOfOtherVersion known e.ask e.say → IsWelcome known e → MayFollow known notes e
+welcome_follows known notes e understood welcome ends =
+    ⊎_elim understood (λ other. ⊎_elim (λ passed. welcome.wanted (unwelcome_of notes e.ask e.say passed)) (useful known notes e welcome) other) ends
 
 -- ---- steps
 

@@ -262,7 +262,7 @@ module _ (rule : Rule) (holding : Holding) (lock : Option LockRow) (Fresh : Type
         goes_on rule (record { who = holding.who; token = t }) lock' Fresh Knows Wants line now (Ask.Lock (lock_row (task_under rule holding.who) t)) (e ∷ es) s at.instance (more line.sequence e es waits.counted) k.1
         (still_whole e es (plain_by r.ask Ask.Ticket q ticket_plain)) obeys_more (t, all, refl) (λ w. absurd w) (k.0, k.1, all) (
           subst (λ a. MayFollow (known_under rule holding.who) rule.notes (silent a say)) (sym q) (subst (λ s. MayFollow (known_under rule holding.who) rule.notes (silent Ask.Ticket s)) (sym is)
-              (welcome_follows (known_under rule holding.who) rule.notes (silent Ask.Ticket (Say.Token t)) (λ o. o) (λ w. w tt))),
+              (welcome_follows (known_under rule holding.who) rule.notes (silent Ask.Ticket (Say.Token t)) (λ o. o) (record { wanted = λ w. w tt; sensible = λ u. u tt; good = λ thing name bad. bad }))),
           all_before k.1 (none_before none),
         )
 
@@ -296,7 +296,7 @@ module _ (rule : Rule) (holding : Holding) (lock : Option LockRow) (Fresh : Type
         goes_on rule holding lock Fresh Knows Wants line now Ask.Config (e ∷ es) s at.instance (more line.sequence e es waits.counted) k.1 (still_whole e es (plain_by r.ask (Ask.Lock row) q (lock_plain row))) obeys_more
         (holding.token, all) (λ w. absurd w) (k.0, k.1, all) (
           subst (λ a. MayFollow (known_under rule holding.who) rule.notes (silent a say)) (sym q) (subst (λ s. MayFollow (known_under rule holding.who) rule.notes (silent (Ask.Lock row) s)) (sym is)
-              (welcome_follows (known_under rule holding.who) rule.notes (silent (Ask.Lock row) Say.Done) (λ o. o) (λ w. w tt))),
+              (welcome_follows (known_under rule holding.who) rule.notes (silent (Ask.Lock row) Say.Done) (λ o. o) (record { wanted = λ w. w tt; sensible = λ u. u tt; good = λ thing name bad. bad }))),
           all_before k.1 (ticket_before holding.token k.2),
         )
       where
@@ -330,7 +330,8 @@ module _ (rule : Rule) (holding : Holding) (lock : Option LockRow) (Fresh : Type
     config_follows text config q is reads known_to =
         let none : ¬ IsOfOtherVersion (known_under rule holding.who) Ask.Config (Say.Bytes text) = λ other. (let w = config_faultless (known_under rule holding.who) text config TextError.Version reads known_to other in absurd (cc)) in
         subst (λ a. MayFollow (known_under rule holding.who) rule.notes (silent a say)) (sym q) (subst (λ s. MayFollow (known_under rule holding.who) rule.notes (silent Ask.Config s)) (sym is)
-        (welcome_follows (known_under rule holding.who) rule.notes (silent Ask.Config (Say.Bytes text)) none (λ w. w tt)))
+        (welcome_follows (known_under rule holding.who) rule.notes (silent Ask.Config (Say.Bytes text)) none
+        (record { wanted = λ w. w tt; sensible = λ u. u.3 (config_faultless (known_under rule holding.who) text config u.0 reads known_to u.1); good = λ thing name bad. bad })))
 
     -- it is read, of a version that is known, and the job asks for more
     begun : (Fresh' : Type 0) (Knows' : Ask → Trace → Type 0) (Wants' : Trace → Type 0) (text : List ℕ) (config : Config) (ask : Ask) (now : Line) → r.ask ≡ Ask.Config → say ≡ Say.Bytes text → IsConfigText text config

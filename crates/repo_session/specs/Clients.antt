@@ -36,8 +36,8 @@ pub record IsNextRequest (task : Task) (Allows : Trace → Ask → Type 0) (es :
 
 -- a client that stands where a trace leaves it: the trace obeys the order and the job's rule, and so does what is pending; where nothing is, there
 -- is an outcome, and no lock is held unless the numbers are spent; an outcome comes only where it may, and stands beside no pending request but the
--- unlock, which has one beside it. What is of a version that isn't known, and a refusal or a reply of the wrong sort, ended the job where it came. Where nothing is
--- pending and there is no outcome, it may want input.
+-- unlock, which has one beside it. A reply on which a job ends at once ended it where it came. Where nothing is pending and there is no outcome, it may
+-- want input.
 pub record IsObedientWith (task : Task) (Allows : Trace → Ask → Type 0) (Gives : Trace → Exchange → Type 0) (Own : Trace → Outcome → Type 0)
     (Wanting : Trace → Type 0) (next : Option Request) (outcome : Option Outcome) (es : Trace) : Type 0 where
   pub obeys : Obeys task Allows Gives es

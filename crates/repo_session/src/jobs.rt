@@ -64,8 +64,9 @@ pub trait Job {
         ensures handed { handed self.new ≡ handed self.old };
 
     /// Takes the reply to a request of its own: one that brings a snapshot of a version that isn't known to the job and to
-    /// who asks ends it, for that, and it passes on a refusal, or a reply of another sort than the request wants, but for
-    /// what it notes. It fails for memory alone, and then it knows what it knew, and the reply may be taken again.
+    /// who asks, a page that doesn't rise, or an object that is bad ends it, for that, and it passes on a refusal, or a reply
+    /// of another sort than the request wants; but for what it notes. It fails for memory alone, and then it knows what it
+    /// knew, and the reply may be taken again.
     fn reply(&mut self, holder: &Holder, ask: &Ask, say: &Say) -> Result<Step, AllocError>
         ensures steps { IfOk result (TurnsOn (rule (handed self.old)) holder.now (knows self.old) (knows self.new) (wants self.new) (giving ask.now say.now (given self.new))) }
         ensures heeds { IfOk result (HeedsReply (rule (handed self.old)) holder.now (knows self.old) (giving ask.now say.now (given self.new))) }

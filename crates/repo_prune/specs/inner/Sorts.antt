@@ -6,7 +6,3 @@ use Rattle.repo_wire.specs.declared.messages.Say.{Say}
 -- bytes
 abbrev pub IsBytes : Say → Type 0
 IsBytes say = (x : List ℕ) × (say ≡ Say.Bytes x)
-
--- a page of names
-abbrev pub IsPage : Say → Type 0
-IsPage say = (more : Bool) × (names : List Name) × (say ≡ Say.Names more names)

@@ -9,7 +9,7 @@ use Rattle.repo_check.specs.Walks.{walk_of}
 use Rattle.repo_check.specs.declared.checks.Check.{Check}
 use Rattle.repo_check.specs.declared.surveys.Next.{Next}
 use Rattle.repo_check.proofs.CheckSteps.{concludes, may_ask}
-use Rattle.repo_check.proofs.Heeding.{asker_heeds}
+use Rattle.repo_check.proofs.Heeding.{asker_heeds, asks_behind}
 use Rattle.repo_check.proofs.Rounding.{of_any, on_any}
 use Rattle.repo_check.proofs.checks.CheckJob.reply.Goals as goal
 
@@ -51,13 +51,13 @@ returns-in-Away-clause-steps c = λ es w obeys asked.
     takes (check_task c.args.holder.now.who) c.args.holder.now.token es (sym c.versions.ensures) w asked.may asked.knows
 
 pub returns-in-Ask-clause-heeds : goal.returns-in-Ask-clause-heeds
-returns-in-Ask-clause-heeds c = λ es w obeys asked ends. asker_heeds c.versions.result c.args.holder.now.who.versions c.args.ask.now c.args.say.now (Next.Ask c.in-Ask.next) c.versions.ensures (rw c.in-Ask.is at c.in_ok-next.ensures.heeds) ends
+returns-in-Ask-clause-heeds c = λ es w obeys asked ends. asker_heeds c.versions.result c.args.holder.now.who.versions c.args.ask.now c.args.say.now (Next.Ask c.in-Ask.next) c.versions.ensures ((rw c.in-Ask.is at c.in_ok-next.ensures.heeds) (asks_behind (check_task c.args.holder.now.who) (rounds_of c.args.self.now.survey) (walk_of c.args.self.now.survey.walk) c.args.ask.now es asked.may asked.knows)) ends
 
 pub returns-in-Over-clause-heeds : goal.returns-in-Over-clause-heeds
-returns-in-Over-clause-heeds c = of_any c.conclude.result _ (λ step es w obeys asked ends. absurd (asker_heeds c.versions.result c.args.holder.now.who.versions c.args.ask.now c.args.say.now Next.Over c.versions.ensures (rw c.in-Over.is at c.in_ok-next.ensures.heeds) ends))
+returns-in-Over-clause-heeds c = of_any c.conclude.result _ (λ step es w obeys asked ends. absurd (asker_heeds c.versions.result c.args.holder.now.who.versions c.args.ask.now c.args.say.now Next.Over c.versions.ensures ((rw c.in-Over.is at c.in_ok-next.ensures.heeds) (asks_behind (check_task c.args.holder.now.who) (rounds_of c.args.self.now.survey) (walk_of c.args.self.now.survey.walk) c.args.ask.now es asked.may asked.knows)) ends))
 
 pub returns-in-Senseless-clause-heeds : goal.returns-in-Senseless-clause-heeds
-returns-in-Senseless-clause-heeds c = λ es w obeys asked ends. (End.BadReply, refl, asker_heeds c.versions.result c.args.holder.now.who.versions c.args.ask.now c.args.say.now Next.Senseless c.versions.ensures (rw c.in-Senseless.is at c.in_ok-next.ensures.heeds) ends)
+returns-in-Senseless-clause-heeds c = λ es w obeys asked ends. (End.BadReply, refl, asker_heeds c.versions.result c.args.holder.now.who.versions c.args.ask.now c.args.say.now Next.Senseless c.versions.ensures ((rw c.in-Senseless.is at c.in_ok-next.ensures.heeds) (asks_behind (check_task c.args.holder.now.who) (rounds_of c.args.self.now.survey) (walk_of c.args.self.now.survey.walk) c.args.ask.now es asked.may asked.knows)) ends)
 
 pub returns-in-Version-clause-heeds : goal.returns-in-Version-clause-heeds
-returns-in-Version-clause-heeds c = λ es w obeys asked ends. (End.Version, refl, asker_heeds c.versions.result c.args.holder.now.who.versions c.args.ask.now c.args.say.now Next.Version c.versions.ensures (rw c.in-Version.is at c.in_ok-next.ensures.heeds) ends)
+returns-in-Version-clause-heeds c = λ es w obeys asked ends. (End.Version, refl, asker_heeds c.versions.result c.args.holder.now.who.versions c.args.ask.now c.args.say.now Next.Version c.versions.ensures ((rw c.in-Version.is at c.in_ok-next.ensures.heeds) (asks_behind (check_task c.args.holder.now.who) (rounds_of c.args.self.now.survey) (walk_of c.args.self.now.survey.walk) c.args.ask.now es asked.may asked.knows)) ends)

@@ -2,7 +2,7 @@ use Rattle.std.proofs.Common.{◌≡◌, ℕ, Option, sym, subst}
 use Rattle.std.proofs.lemmas.Result.{IfOk-weaker}
 use Rattle.repo_name.specs.declared.names.Name.{Name}
 use Rattle.repo_wire.specs.declared.messages.Ask.{Ask}
-use Rattle.repo_check.specs.Surveys.{HasTaken, HeedsNext, SurveyTakesBy, Surveys, TakesSurvey, rounds_of}
+use Rattle.repo_check.specs.Surveys.{HasTaken, HeedsNext, IsPageBehind, SurveyTakesBy, Surveys, TakesSurvey, rounds_of}
 use Rattle.repo_check.specs.Walks.{walk_of}
 use Rattle.repo_check.specs.declared.surveys.Next.{Next}
 use Rattle.repo_check.proofs.Arriving.{ok_then}
@@ -59,12 +59,15 @@ returns-in-Range-clause-over c =
 pub returns-in-List-clause-heeds : goal.returns-in-List-clause-heeds
 returns-in-List-clause-heeds c =
     let known = upto c.args.versions in
-    IfOk-weaker c.take_page.result _ _ (λ next heeds. subst (λ ask. HeedsNext known ask c.args.say.now next) (sym c.in-List.is) (heeds known c.in-List.after)) c.take_page.ensures.heeds
+    let B : Ask → Type 0 = IsPageBehind (rounds_of c.args.self.now) in
+    IfOk-weaker c.take_page.result _ _ (λ next heeds behind. subst (λ ask. HeedsNext known ask c.args.say.now next) (sym c.in-List.is) (heeds known c.in-List.after (subst B c.in-List.is behind))) c.take_page.ensures.heeds
 
 pub returns-in-Get-clause-heeds : goal.returns-in-Get-clause-heeds
-returns-in-Get-clause-heeds c = rw c.in-Get.is c.take_object.ensures.heeds
+returns-in-Get-clause-heeds c =
+    let known = upto c.args.versions in
+    IfOk-weaker c.take_object.result _ _ (λ next heeds behind. subst (λ ask. HeedsNext known ask c.args.say.now next) (sym c.in-Get.is) heeds) c.take_object.ensures.heeds
 
 pub returns-in-Range-clause-heeds : goal.returns-in-Range-clause-heeds
 returns-in-Range-clause-heeds c =
     let known = upto c.args.versions in
-    IfOk-weaker c.take_tree.result _ _ (λ next heeds. subst (λ ask. HeedsNext known ask c.args.say.now next) (sym c.in-Range.is) (heeds known c.in-Range.pack c.in-Range.offset c.in-Range.length)) c.take_tree.ensures.heeds
+    IfOk-weaker c.take_tree.result _ _ (λ next heeds behind. subst (λ ask. HeedsNext known ask c.args.say.now next) (sym c.in-Range.is) (heeds known c.in-Range.pack c.in-Range.offset c.in-Range.length)) c.take_tree.ensures.heeds

@@ -36,4 +36,4 @@ returns-clause-same c = err_with c.after_packs.result (λ all after es h.
 pub returns-clause-heeds : goal.returns-clause-heeds
 returns-clause-heeds c =
     let turn = c.in_ok-turn.turn in
-    IfOk-weaker c.after_packs.result _ _ (λ next goes known after. trees_heed known (Ask.List Kind.Pack after) c.args.say.now _ (walk_of c.after_packs.new.self.walk) turn next goes (c.in_ok-turn.ensures.heeds known Kind.Pack after)) c.after_packs.ensures.after
+    IfOk-weaker c.after_packs.result _ _ (λ next goes known after behind. trees_heed known (Ask.List Kind.Pack after) c.args.say.now _ (walk_of c.after_packs.new.self.walk) turn next goes (c.in_ok-turn.ensures.heeds known Kind.Pack after behind)) c.after_packs.ensures.after

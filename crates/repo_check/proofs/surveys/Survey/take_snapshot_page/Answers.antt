@@ -15,4 +15,4 @@ returns-clause-takes c = λ after task token es w may h.
     snapshots_page old new (walk_of c.args.self.now.walk) c.args.say.now c.in_ok-turn.turn c.after_turn.result c.in_ok-turn.ensures.pages (ap (λ v. v.items) c.in_ok-turn.ensures.notes) refl refl c.after_turn.ensures.after task token after es w may h
 
 pub returns-clause-heeds : goal.returns-clause-heeds
-returns-clause-heeds c = λ known after. next_heeds known (Ask.List Kind.Snapshot after) c.args.say.now c.in_ok-turn.turn _ c.after_turn.result c.after_turn.ensures.after (c.in_ok-turn.ensures.heeds known Kind.Snapshot after)
+returns-clause-heeds c = λ known after behind. next_heeds known (Ask.List Kind.Snapshot after) c.args.say.now c.in_ok-turn.turn _ c.after_turn.result c.after_turn.ensures.after (c.in_ok-turn.ensures.heeds known Kind.Snapshot after behind)

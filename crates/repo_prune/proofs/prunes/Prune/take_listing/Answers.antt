@@ -1,9 +1,7 @@
 use Rattle.std.proofs.Common.{subst}
 use Rattle.std.proofs.lemmas.Result.{IfOk-weaker, on_err_weaker}
 use Rattle.repo_prune.specs.PruneStates.{IsListingOf}
-use Rattle.repo_session.specs.Versions.{upto}
-use Rattle.repo_prune.proofs.Heeding.{page_heeds}
-use Rattle.repo_prune.proofs.PruneListing.{steps_listing, knows_listing}
+use Rattle.repo_prune.proofs.PruneListing.{heeds_listing, steps_listing, knows_listing}
 use Rattle.repo_prune.proofs.prunes.Prune.take_listing.Goals as goal
 
 pub returns-in-Snapshot-clause-steps : goal.returns-in-Snapshot-clause-steps
@@ -27,5 +25,5 @@ pub returns-in-Index-clause-heeds : goal.returns-in-Index-clause-heeds
 returns-in-Index-clause-heeds c = IfOk-weaker c.take_indexes.result _ _ (λ step h is who same. h c.args.token (subst (λ j. IsListingOf j c.args.ask.now) c.in-Index.is is) who) c.take_indexes.ensures.heeds
 
 pub returns-in-Pack-clause-heeds : goal.returns-in-Pack-clause-heeds
-returns-in-Pack-clause-heeds c = IfOk-weaker c.take_page.result _ _ (λ step h is who same es w obeys asked.
-    page_heeds (upto who.versions) c.args.ask.now c.args.say.now step es (subst (λ j. IsListingOf j c.args.ask.now) c.in-Pack.is is) asked.allowed.1 h) c.take_page.ensures.heeds
+returns-in-Pack-clause-heeds c = IfOk-weaker c.take_page.result _ _ (λ step h is who same.
+    heeds_listing c.args.self.now c.args.token c.args.ask.now c.args.say.now step h (subst (λ j. IsListingOf j c.args.ask.now) c.in-Pack.is is) who) c.take_page.ensures.heeds

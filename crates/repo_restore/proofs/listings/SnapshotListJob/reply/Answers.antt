@@ -2,7 +2,7 @@ use Rattle.std.proofs.Common.{false, ◌∷◌, [], List, refl, sym, subst, inl}
 use Rattle.repo_name.specs.declared.names.Name.{Name}
 use Rattle.repo_name.specs.declared.kinds.Thing.{Thing}
 use Rattle.repo_tree.specs.declared.snapshots.Snapshot.{Snapshot}
-use Rattle.repo_session.specs.Ends.{IsBad, IsSenseless, IsOfOtherVersion}
+use Rattle.repo_session.specs.Ends.{IsBad, IsSenseless, IsOfOtherVersion, IsWelcome}
 use Rattle.repo_session.specs.Jobs.{task_under}
 use Rattle.repo_session.specs.Listings.{IsSnapshotListing}
 use Rattle.repo_session.specs.Traces.{Exchange, silent}
@@ -63,7 +63,8 @@ returns-in-Ask-clause-heeds c = λ es w obeys asked.
     let e : Exchange = silent c.args.ask.now c.args.say.now in
     let lists = (rw c.in-Ask.is at c.in_ok-next.ensures.ok) (task_under list_rule who) c.args.holder.now.token [] es w asked.may asked.knows in
     let understood : ¬ IsOfOtherVersion (upto who.versions) e.ask e.say = subst (λ versions. ¬ IsOfOtherVersion (upto versions) e.ask e.say) c.versions.ensures lists.0.0 in
-    λ ends. absurd (welcome_follows (upto who.versions) false e understood lists.0.1 ends)
+    let welcome = subst (λ versions. IsWelcome (upto versions) e) c.versions.ensures lists.0.1 in
+    λ ends. absurd (welcome_follows (upto who.versions) false e understood welcome ends)
 
 pub returns-in-All-clause-heeds : goal.returns-in-All-clause-heeds
 returns-in-All-clause-heeds c = λ es w obeys asked.
@@ -71,7 +72,8 @@ returns-in-All-clause-heeds c = λ es w obeys asked.
     let e : Exchange = silent c.args.ask.now c.args.say.now in
     let lists = (rw c.in-All.is at c.in_ok-next.ensures.ok) (task_under list_rule who) c.args.holder.now.token [] es w asked.may asked.knows in
     let understood : ¬ IsOfOtherVersion (upto who.versions) e.ask e.say = subst (λ versions. ¬ IsOfOtherVersion (upto versions) e.ask e.say) c.versions.ensures lists.0.0 in
-    λ ends. absurd (welcome_follows (upto who.versions) false e understood lists.0.1 ends)
+    let welcome = subst (λ versions. IsWelcome (upto versions) e) c.versions.ensures lists.0.1 in
+    λ ends. absurd (welcome_follows (upto who.versions) false e understood welcome ends)
 
 pub returns-in-Bad-clause-heeds : goal.returns-in-Bad-clause-heeds
 returns-in-Bad-clause-heeds c = λ es w obeys asked.

@@ -5,13 +5,13 @@ use Rattle.repo_wire.specs.declared.messages.Ask.{Ask}
 use Rattle.repo_wire.specs.declared.messages.Say.{Say}
 use Rattle.repo_tree.specs.SnapshotText.{IsSnapshotText, SnapshotFault}
 use Rattle.repo_tree.specs.declared.faults.TextError.{TextError}
-use Rattle.repo_session.specs.Ends.{CausedBy, IsOfOtherVersion, IsUnwelcome}
+use Rattle.repo_session.specs.Ends.{CausedBy, IsOfOtherVersion, IsUnreadable, IsUnwelcome, IsWelcome}
 use Rattle.repo_session.specs.Jobs.{task_under}
 use Rattle.repo_session.specs.Traces.{Exchange, giving}
 use Rattle.repo_session.specs.Versions.{upto}
 use Rattle.repo_session.proofs.Causes.{snapshot_faultless}
 use Rattle.repo_session.proofs.Receiving.{unwelcome_get, bad_object}
-use Rattle.repo_session.proofs.Heeding.{bytes_wanted, heeds_end, welcome_follows}
+use Rattle.repo_session.proofs.Heeding.{object_welcome, heeds_end, welcome_follows}
 use Rattle.repo_name.specs.declared.kinds.Thing.{Thing}
 use Rattle.repo_session.specs.declared.outcomes.End.{End}
 use Rattle.repo_restore.specs.declared.restores.Stage.{Stage}
@@ -116,8 +116,10 @@ returns-in-Ok-clause-heeds c = λ ask es w obeys asked.
     let fault = subst F (sym c.as_slice-bytes.ensures) (subst O c.in-Bytes.is (subst A asks other)).1 in
     let q : TextError.Version ≡ TextError.Memory = snapshot_faultless known x c.in-Ok.snapshot TextError.Version read.0 within fault in
     absurd (cc)) in
-    let U : Ask → Type 0 = λ a. ¬ IsUnwelcome a e.say in
-    λ ends. absurd (welcome_follows known false e understood (subst U (sym asks) (bytes_wanted Kind.Snapshot j.snapshot e.say c.in-Bytes.bytes c.in-Bytes.is)) ends)
+    let reads : ¬ IsUnreadable known Kind.Snapshot x = λ u. u.3 (snapshot_faultless known x c.in-Ok.snapshot u.0 read.0 within u.1) in
+    let good = object_welcome known Kind.Snapshot j.snapshot e.say x e.emitted (c.in-Bytes.is ∙ ap Say.Bytes (sym c.as_slice-bytes.ensures)) (c.is_named.ensures.0 c.if-not-is_named.false) reads in
+    let W : Ask → Type 0 = λ a. IsWelcome known (giving a e.say e.emitted) in
+    λ ends. absurd (welcome_follows known false e understood (subst W (sym asks) good) ends)
 
 pub returns-in_ok-end-in-Err-clause-heeds : goal.returns-in_ok-end-in-Err-clause-heeds
 returns-in_ok-end-in-Err-clause-heeds c = λ ask es w obeys asked.
