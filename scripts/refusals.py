@@ -1,0 +1,131 @@
+"""Whether the prover refuses a crate with edits in it, each for what the function that it turns owes."""
+import os
+import re
+import shutil
+import subprocess
+import sys
+import tempfile
+
+import edits
+
+TOLD = re.compile(r"^fn (\S+): (.*)$")
+PLACED = re.compile(r"^(?:note: )?(?:\./)?(\S+):\d+:\d+: (.*)$")
+REFUSED = ("no proof", "not proved")
+# The function isn't proved as one that it calls isn't.
+BY_ANOTHER = re.compile(r"it calls .* not proved")
+# A proof file names what the edit took away.
+NAMES_ALONE = re.compile(r"has no field|is not in scope|has no `|was not admitted")
+
+
+class Edit:
+    """An edit of a crate: what it makes of the crate's files, and the names of the functions by which it is refused; none where it
+    turns something else than functions of src/, and where it is refused by whatever isn't proved."""
+
+    def __init__(self, rt, crate, path):
+        self.label = f"{crate.name}/{os.path.basename(path)}"
+        with open(path, encoding="utf-8") as it:
+            self.text = it.read()
+        texts, why = rt.edited(self.text, crate.folder)
+        if why:
+            sys.exit(f"{self.label}: {why}")
+        self.turned = {(file, at) for file, text in texts.items() for at in places(crate, file, text)}
+        self.is_local = all(at is not None and file.startswith("src/") for file, at in self.turned)
+        self.functions = {f"{crate.name}::{edits.name_of(crate.folder, *it)}" for it in self.turned} if self.is_local else set()
+
+
+def places(crate, file, text):
+    """The places of the functions of a file that this text of it turns."""
+    with open(f"{crate.folder}/{file}", encoding="utf-8") as it:
+        return edits.turned_functions(it.read().split("\n"), text.split("\n"))
+
+
+def rounds_of(tried):
+    """The edits in rounds, in each of which a function is turned once at most; what turns anything else comes alone."""
+    rounds = []
+    for edit in tried:
+        fitting = next((it for it in rounds if edit.functions and not any(not other.functions or edit.functions & other.functions for other in it)), None)
+        if fitting is None:
+            rounds.append([edit])
+        else:
+            fitting.append(edit)
+    return rounds
+
+
+def checked(rt, crate, tried, kept):
+    """The lines of a check of the functions that these edits turn, or of the whole crate where one turns something else, in a copy of
+    the crate in which they are made, over what the checks of the crate before it have kept there."""
+    rtlib = rt.rtlib
+    with tempfile.TemporaryDirectory(prefix="edits-") as room:
+        for part in rtlib.PARTS:
+            if os.path.isdir(f"{crate.folder}/{part}"):
+                shutil.copytree(f"{crate.folder}/{part}", f"{room}/{part}")
+        for edit in tried:
+            for file, text in rt.edited(edit.text, room)[0].items():
+                with open(f"{room}/{file}", "w", encoding="utf-8") as it:
+                    it.write(text)
+        only = [word for edit in tried for name in sorted(edit.functions) for word in ("--only", name)]
+        words = [*rtlib.guarded(), rtlib.RATTLE, "check", *crate.words(["--jobs", "1"], keeps=False), "--incremental", kept, *only]
+        how = {"stdin": subprocess.DEVNULL, "stdout": subprocess.PIPE, "stderr": subprocess.STDOUT}
+        told = subprocess.run(words, cwd=room, text=True, errors="replace", **how).stdout
+        return [] if rtlib.STALE.search(told) else told.split("\n")
+
+
+def said_of(function, lines):
+    """What a check says of a function; None where it says nothing of it."""
+    return next((found[2] for found in map(TOLD.match, reversed(lines)) if found and found[1] == function), None)
+
+
+def told_of(function, lines):
+    """Whether a function isn't proved, by these lines of a check; None where they don't say so of it by itself."""
+    said = said_of(function, lines)
+    return None if said is None or BY_ANOTHER.search(said) else said.startswith(REFUSED)
+
+
+def verdict(edit, lines):
+    """Whether the edit was refused, by these lines of a check; None where they don't say so of its functions by themselves."""
+    if not edit.functions:
+        return any(line.startswith("logic=not-proved") for line in lines)
+    told = [told_of(function, lines) for function in edit.functions]
+    return True if True in told else None if None in told else False
+
+
+def reason(edit, lines):
+    """What the check says first of the functions: a goal in a file of their proofs, or their own lines, or else the check's first.
+    Names that a proof file can't find any more come last, as they say little of the contract."""
+    folders = tuple(f"/{function.split('::')[-1]}/" for function in edit.functions)
+    placed = [found for found in map(PLACED.match, lines) if found and ": note: " not in found[0]]
+    goals = [found[2] for found in placed if not folders or any(folder in found[1] for folder in folders)]
+    own = [said for said in (said_of(function, lines) for function in sorted(edit.functions)) if said]
+    said = sorted(goals or own or ["nothing is said of it"], key=lambda it: bool(NAMES_ALONE.search(it)))[0][:150]
+    return f"{said} (only names that a proof file can't find)" if NAMES_ALONE.search(said) else said
+
+
+def tried_round(rt, crate, tried, kept):
+    """What came of each edit of a round: whether it was refused, and why; None where a check of its functions doesn't say so of them,
+    also by itself. Those of whose functions a check doesn't say so by themselves, as they call one that another edit turns, are tried
+    once more without the others; one by one, where it says so of none, as where an edit can't be read."""
+    lines = checked(rt, crate, tried, kept)
+    told = [edit for edit in tried if len(tried) == 1 or verdict(edit, lines) is not None]
+    for edit in told:
+        yield edit, verdict(edit, lines), reason(edit, lines)
+    left = [edit for edit in tried if edit not in told]
+    for again in [left] if told and left else [[edit] for edit in left]:
+        yield from tried_round(rt, crate, again, kept)
+
+
+def is_there(crate, rtlib):
+    """Whether a crate's library is there, as the crate and those below it stand: `rt lib` stamps it with the digest of their sources,
+    and one of `rt ci`, which has no stamp, has to be newer than all of these."""
+    if os.path.exists(f"{crate.folder}/out/rlib/stamp"):
+        return crate.is_built()
+    sources = (file for it in (crate, *crate.below()) for file in rtlib.files_of(it.folder))
+    return os.path.isdir(crate.rlib) and all(os.path.getmtime(file) <= os.path.getmtime(crate.rlib) for file in sources)
+
+
+def crates_with(rt, root, wanted):
+    """The crates of these names, where their libraries are there, and those of all below; else it ends, and says which lack."""
+    crates = [it for it in rt.rtlib.crates_below(root) if it.name in wanted]
+    lacking = sorted({it.name for it in {it for crate in crates for it in (crate, *crate.below())} if not is_there(it, rt.rtlib)})
+    if lacking or len(crates) < len(wanted):
+        sys.exit(f"no library of {', '.join(lacking)} as it stands: scripts/libraries.py" if lacking else "there is no such crate")
+    return crates
