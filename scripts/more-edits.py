@@ -36,7 +36,7 @@ def tried(rt, crate, edits, kept):
     for edit, is_refused, why in (it for each in rounds_of(edits) for it in tried_round(rt, crate, each, kept)):
         if is_refused is None:
             edit.functions = set()
-            lines = checked(rt, crate, [edit], kept)
+            _, lines = checked(rt, crate, [edit], kept)
             is_refused, why = verdict(edit, lines), reason(edit, lines)
         yield edit, is_refused, why
 

@@ -15,11 +15,12 @@ REFUSED = ("no proof", "not proved")
 BY_ANOTHER = re.compile(r"it calls .* not proved")
 # A proof file names what the edit took away.
 NAMES_ALONE = re.compile(r"has no field|is not in scope|has no `|was not admitted")
+ONLY = re.compile(r"^only: (\S+)$", re.M)
 
 
 class Edit:
-    """An edit of a crate: what it makes of the crate's files, and the names of the functions by which it is refused; none where it
-    turns something else than functions of src/, and where it is refused by whatever isn't proved."""
+    """An edit of a crate: what it makes of the crate's files, and the names of the functions by which it is refused: those of src/ that
+    it turns, or where it turns anything else those that its lines `only: NAME` say; none where it is refused by whatever isn't proved."""
 
     def __init__(self, rt, crate, path):
         self.label = f"{crate.name}/{os.path.basename(path)}"
@@ -28,9 +29,10 @@ class Edit:
         texts, why = rt.edited(self.text, crate.folder)
         if why:
             sys.exit(f"{self.label}: {why}")
-        self.turned = {(file, at) for file, text in texts.items() for at in places(crate, file, text)}
-        self.is_local = all(at is not None and file.startswith("src/") for file, at in self.turned)
-        self.functions = {f"{crate.name}::{edits.name_of(crate.folder, *it)}" for it in self.turned} if self.is_local else set()
+        turned = {(file, at) for file, text in texts.items() for at in places(crate, file, text)}
+        self.is_local = all(at is not None and file.startswith("src/") for file, at in turned)
+        names = [edits.name_of(crate.folder, *it) for it in turned] if self.is_local else ONLY.findall(self.text)
+        self.functions = {f"{crate.name}::{name}" for name in names}
 
 
 def places(crate, file, text):
@@ -43,7 +45,7 @@ def rounds_of(tried):
     """The edits in rounds, in each of which a function is turned once at most; what turns anything else comes alone."""
     rounds = []
     for edit in tried:
-        fitting = next((it for it in rounds if edit.functions and not any(not other.functions or edit.functions & other.functions for other in it)), None)
+        fitting = next((it for it in rounds if edit.is_local and all(other.is_local and not edit.functions & other.functions for other in it)), None)
         if fitting is None:
             rounds.append([edit])
         else:
@@ -52,22 +54,26 @@ def rounds_of(tried):
 
 
 def checked(rt, crate, tried, kept):
-    """The lines of a check of the functions that these edits turn, or of the whole crate where one turns something else, in a copy of
-    the crate in which they are made, over what the checks of the crate before it have kept there."""
+    """The edits that could be made together, since their texts stand once beside the others, and the lines of a check of the functions
+    by which these are refused, or of the whole crate where none are said: in a copy of the crate, over what the checks of the crate
+    before it have kept there."""
     rtlib = rt.rtlib
     with tempfile.TemporaryDirectory(prefix="edits-") as room:
         for part in rtlib.PARTS:
             if os.path.isdir(f"{crate.folder}/{part}"):
                 shutil.copytree(f"{crate.folder}/{part}", f"{room}/{part}")
+        made = []
         for edit in tried:
-            for file, text in rt.edited(edit.text, room)[0].items():
+            texts, why = rt.edited(edit.text, room)
+            for file, text in ({} if why else texts).items():
                 with open(f"{room}/{file}", "w", encoding="utf-8") as it:
                     it.write(text)
-        only = [word for edit in tried for name in sorted(edit.functions) for word in ("--only", name)]
+            made += [] if why else [edit]
+        only = [word for edit in made for name in sorted(edit.functions) for word in ("--only", name)]
         words = [*rtlib.guarded(), rtlib.RATTLE, "check", *crate.words(["--jobs", "1"], keeps=False), "--incremental", kept, *only]
         how = {"stdin": subprocess.DEVNULL, "stdout": subprocess.PIPE, "stderr": subprocess.STDOUT}
         told = subprocess.run(words, cwd=room, text=True, errors="replace", **how).stdout
-        return [] if rtlib.STALE.search(told) else told.split("\n")
+        return made, [] if rtlib.STALE.search(told) else told.split("\n")
 
 
 def said_of(function, lines):
@@ -102,10 +108,11 @@ def reason(edit, lines):
 
 def tried_round(rt, crate, tried, kept):
     """What came of each edit of a round: whether it was refused, and why; None where a check of its functions doesn't say so of them,
-    also by itself. Those of whose functions a check doesn't say so by themselves, as they call one that another edit turns, are tried
-    once more without the others; one by one, where it says so of none, as where an edit can't be read."""
-    lines = checked(rt, crate, tried, kept)
-    told = [edit for edit in tried if len(tried) == 1 or verdict(edit, lines) is not None]
+    also by itself. Those of whose functions a check doesn't say so by themselves, as they call one that another edit turns, and those
+    that couldn't be made beside the others, are tried once more without these; one by one, where it says so of none, as where an edit
+    can't be read."""
+    made, lines = checked(rt, crate, tried, kept)
+    told = [edit for edit in made if len(tried) == 1 or verdict(edit, lines) is not None]
     for edit in told:
         yield edit, verdict(edit, lines), reason(edit, lines)
     left = [edit for edit in tried if edit not in told]
