@@ -11,8 +11,8 @@ import edits
 TOLD = re.compile(r"^fn (\S+): (.*)$")
 PLACED = re.compile(r"^(?:note: )?(?:\./)?(\S+):\d+:\d+: (.*)$")
 REFUSED = ("no proof", "not proved")
-# The function isn't proved as one that it calls isn't.
-BY_ANOTHER = re.compile(r"it calls .* not proved")
+# The function isn't proved as one that it calls isn't, or a block that it passes on.
+BY_ANOTHER = re.compile(r"^(?:no proof: |not proved: )?it (?:calls|passes|waits) ")
 # A proof file names what the edit took away.
 NAMES_ALONE = re.compile(r"has no field|is not in scope|has no `|was not admitted")
 ONLY = re.compile(r"^only: (\S+)$", re.M)
@@ -81,10 +81,26 @@ def said_of(function, lines):
     return next((found[2] for found in map(TOLD.match, reversed(lines)) if found and found[1] == function), None)
 
 
+def answers_of(function):
+    """Where the answers of a function's goals stand."""
+    return f"proofs/{'/'.join(function.split('::')[1:])}/"
+
+
+def errors(lines):
+    """What a check says of places that aren't as they should be, with the file of each."""
+    return [(found[1], found[2]) for found in map(PLACED.match, lines) if found and not found[0].startswith("note: ") and ": note: " not in found[0]]
+
+
 def told_of(function, lines):
-    """Whether a function isn't proved, by these lines of a check; None where they don't say so of it by itself."""
+    """Whether a function isn't proved, by these lines of a check; None where they don't say so of it by itself: it calls another
+    that isn't, and nothing else is said of it, nor of its own answers."""
     said = said_of(function, lines)
-    return None if said is None or BY_ANOTHER.search(said) else said.startswith(REFUSED)
+    if said is None or not said.startswith(REFUSED):
+        return None if said is None else False
+    own = [part for part in said.split("; ") if part not in REFUSED and not BY_ANOTHER.search(part)]
+    if own or any(file.startswith(answers_of(function)) for file, _ in errors(lines)):
+        return True
+    return None if "; " in said or BY_ANOTHER.search(said) else True
 
 
 def verdict(edit, lines):
@@ -98,9 +114,8 @@ def verdict(edit, lines):
 def reason(edit, lines):
     """What the check says first of the functions: a goal in a file of their proofs, or their own lines, or else the check's first.
     Names that a proof file can't find any more come last, as they say little of the contract."""
-    folders = tuple(f"/{function.split('::')[-1]}/" for function in edit.functions)
-    placed = [found for found in map(PLACED.match, lines) if found and ": note: " not in found[0]]
-    goals = [found[2] for found in placed if not folders or any(folder in found[1] for folder in folders)]
+    folders = tuple(map(answers_of, edit.functions))
+    goals = [told for file, told in errors(lines) if not folders or file.startswith(folders)]
     own = [said for said in (said_of(function, lines) for function in sorted(edit.functions)) if said]
     said = sorted(goals or own or ["nothing is said of it"], key=lambda it: bool(NAMES_ALONE.search(it)))[0][:150]
     return f"{said} (only names that a proof file can't find)" if NAMES_ALONE.search(said) else said
@@ -109,15 +124,16 @@ def reason(edit, lines):
 def tried_round(rt, crate, tried, kept):
     """What came of each edit of a round: whether it was refused, and why; None where a check of its functions doesn't say so of them,
     also by itself. Those of whose functions a check doesn't say so by themselves, as they call one that another edit turns, and those
-    that couldn't be made beside the others, are tried once more without these; one by one, where it says so of none, as where an edit
+    that couldn't be made beside the others, are tried once more without these; in two halves, where it says so of none, as where an edit
     can't be read."""
     made, lines = checked(rt, crate, tried, kept)
     told = [edit for edit in made if len(tried) == 1 or verdict(edit, lines) is not None]
     for edit in told:
         yield edit, verdict(edit, lines), reason(edit, lines)
     left = [edit for edit in tried if edit not in told]
-    for again in [left] if told and left else [[edit] for edit in left]:
-        yield from tried_round(rt, crate, again, kept)
+    for again in [left] if told else [left[: len(left) // 2], left[len(left) // 2 :]]:
+        if again:
+            yield from tried_round(rt, crate, again, kept)
 
 
 def is_there(crate, rtlib):
