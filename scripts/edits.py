@@ -30,6 +30,14 @@ def plain(words):
     return words if shorter == words else plain(shorter)
 
 
+def trait_of(header):
+    """A trait as the prover names it in what an `impl` of it has: with the words of what stands in its angle brackets, each begun with a
+    capital letter."""
+    found = re.match(r"(?:<.*?>)? *([\w:]+)(?:<(.*)>)? for ", header)
+    words = re.findall(r"(?<!')\b[A-Za-z]\w*", found[2] or "")
+    return "".join([found[1].split("::")[-1], *(word[0].upper() + word[1:] for word in words)])
+
+
 def module_of(file):
     """The module that a file of src/ is, as parts of a path."""
     return [it for it in os.path.splitext(os.path.relpath(file, "src"))[0].split(os.sep) if it not in ("lib", "main")]
@@ -54,8 +62,8 @@ def name_of(folder, file, at):
     inset, own = FUNCTION.match(lines[at]).groups()
     if not inset:
         return "::".join([*module_of(file), own])
-    words = plain(IMPL.match(next(lines[line] for line in range(at, -1, -1) if IMPL.match(lines[line])))[1]).replace("{", " ").split()
+    header = IMPL.match(next(lines[line] for line in range(at, -1, -1) if IMPL.match(lines[line])))[1]
+    words = plain(header).replace("{", " ").split()
     if "for" in words:
-        place = words.index("for")
-        return "::".join([*module_of(file), words[place + 1] + words[place - 1], own])
+        return "::".join([*module_of(file), words[words.index("for") + 1] + trait_of(header), own])
     return "::".join([*home_of(folder, words[0], file), words[0], own])
