@@ -30,12 +30,12 @@ def plain(words):
     return words if shorter == words else plain(shorter)
 
 
-def trait_of(header):
+def with_arguments(trait, header):
     """A trait as the prover names it in what an `impl` of it has: with the words of what stands in its angle brackets, each begun with a
     capital letter."""
-    found = re.match(r"(?:<.*?>)? *([\w:]+)(?:<(.*)>)? for ", header)
-    words = re.findall(r"(?<!')\b[A-Za-z]\w*", found[2] or "")
-    return "".join([found[1].split("::")[-1], *(word[0].upper() + word[1:] for word in words)])
+    found = re.search(rf"\b{re.escape(trait)}<(.*)> for ", header)
+    words = re.findall(r"(?<!')\b[A-Za-z]\w*", found[1]) if found else []
+    return "".join([trait, *(word[0].upper() + word[1:] for word in words)])
 
 
 def module_of(file):
@@ -65,5 +65,6 @@ def name_of(folder, file, at):
     header = IMPL.match(next(lines[line] for line in range(at, -1, -1) if IMPL.match(lines[line])))[1]
     words = plain(header).replace("{", " ").split()
     if "for" in words:
-        return "::".join([*module_of(file), words[words.index("for") + 1] + trait_of(header), own])
+        place = words.index("for")
+        return "::".join([*module_of(file), words[place + 1] + with_arguments(words[place - 1], header), own])
     return "::".join([*home_of(folder, words[0], file), words[0], own])

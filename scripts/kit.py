@@ -57,5 +57,8 @@ def load():
     sys.modules["rt"] = made
     loader.exec_module(made)
     made.rtlib.Crate.stamp = once_each(made.rtlib.Crate.stamp)
-    made.in_lanes = reckoning(made.in_lanes)
+    if hasattr(made, "in_lanes"):
+        made.in_lanes = reckoning(made.in_lanes)
+    else:
+        os.environ.setdefault("RT_JOBS", str(jobs_here()))
     return made

@@ -117,15 +117,15 @@ class Job:
             self.process.wait()
 
 
-def proves(names, crates, yards, done):
-    """Proves the crates but for those that are done, one in each yard, those with the longest chains above them first; the one that
-    isn't proved, if there is one."""
-    height, left, running, jobs = heights(names, crates), set(names) - done, [], len(yards)
+def proves(names, crates, yards, jobs, done):
+    """Proves the crates but for those that are done, one in each yard and with so many jobs in all, those with the longest chains above
+    them first; the one that isn't proved, if there is one."""
+    height, left, running = heights(names, crates), set(names) - done, []
     try:
         while left or running:
             ready = sorted((name for name in left if done >= set(crates[name])), key=lambda name: (-height[name], name))
             idle = jobs - sum(job.jobs for job in running)
-            begun = min(len(ready), idle)
+            begun = min(len(ready), idle, len(yards))
             for at, (name, yard) in enumerate(zip(ready[:begun], list(yards))):
                 left.remove(name)
                 yards.remove(yard)
@@ -156,14 +156,14 @@ def main():
     given, crates = parser.parse_args(), crates_of_file()
     if given.crate not in crates:
         parser.error(f"there is no crate {given.crate}")
-    names, jobs = below(crates, given.crate), given.jobs or kit.jobs_here()
+    names, jobs = below(crates, given.crate), max(1, given.jobs or kit.jobs_here())
     done = built() & set(names)
     print(f"proving {len(names) - len(done)} crates of {len(names)}, {jobs} at once: an hour on two processors, where none is proved"
           " yet. Unproved the program runs in a minute and a half: examples/first-frame.sh", flush=True)
     begun = time.monotonic()
     with tempfile.TemporaryDirectory() as top:
-        yards = [Yard(Path(top) / str(place)) for place in range(max(1, jobs))]
-        open_one = proves(names, crates, yards, done)
+        yards = [Yard(Path(top) / str(place)) for place in range(min(jobs, len(names) - len(done)))]
+        open_one = proves(names, crates, yards, jobs, done)
     if open_one:
         print(open_one.text(), end="")
         sys.exit(f"{open_one.name} isn't proved")
