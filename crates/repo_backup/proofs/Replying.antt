@@ -1,10 +1,8 @@
 -- What a reply comes to for a backup.
-use Rattle.std.proofs.Common.{◌≡◌, [], ℕ, Bool, true, false, cond, List, refl}
+use Rattle.std.proofs.Common.{◌≡◌, [], Bool, true, false, cond, List, refl}
 use Rattle.repo_name.specs.declared.kinds.Kind.{Kind}
-use Rattle.repo_session.specs.Ends.{IsWelcome, MayFollow}
 use Rattle.repo_session.specs.Readings.{KnowsIndexes}
-use Rattle.repo_session.specs.Traces.{Trace, object_put, silent}
-use Rattle.repo_session.proofs.Heeding.{indexes_understood, welcome_follows}
+use Rattle.repo_session.specs.Traces.{Trace, object_put}
 use Rattle.repo_session.specs.declared.catalogs.Catalog.{Catalog}
 use Rattle.repo_session.specs.declared.emissions.Emission.{Emission}
 use Rattle.repo_wire.specs.declared.messages.Ask.{Ask}
@@ -29,9 +27,3 @@ reading_puts c (Ask.Range pack offset len) es h j = refl
 reading_puts c (Ask.Put t k n x) es h j = absurd h
 reading_puts c (Ask.Delete t k n) es h j = refl
 reading_puts c (Ask.Upgrade t) es h j = refl
-
--- ---- on what a backup goes on
-
--- a reply to a request for indexes, where it is welcome
-pub reading_follows : (known : ℕ) (notes : Bool) (c : Catalog) (ask : Ask) (say : Say) (es : Trace) → KnowsIndexes c ask es → IsWelcome known (silent ask say) → MayFollow known notes (silent ask say)
-reading_follows known notes c ask say es knows welcome = welcome_follows known notes (silent ask say) (indexes_understood known c ask say es knows) welcome

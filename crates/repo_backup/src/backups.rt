@@ -29,10 +29,8 @@ use crate::sending::put_snapshot;
 use crate::steps::{Position, WalkStep};
 use crate::walks::Went;
 use repo_index::{Facts, IndexText, PackFacts};
-use repo_name::{GREATEST_TARGET, Kind, LEAST_TARGET, Name, Thing};
-use repo_session::{
-    Catalog, Emission, End, Holder, Job, Outcome, Reading, Session, Step, Versions, Who,
-};
+use repo_name::{GREATEST_TARGET, Kind, LEAST_TARGET, Name};
+use repo_session::{Came, Catalog, Emission, Holder, Job, Outcome, Session, Step, Versions, Who};
 use repo_tree::{Config, Entry};
 use repo_wire::{Ask, Say};
 use repo_writing::{Counts, Target, is_full, put_index, put_pack};
@@ -236,14 +234,8 @@ impl Backup {
         ensures steps { self.new.steps ≡ self.old.steps }
     {
         match self.catalog.read_on(self.alloc, ask, say)? {
-            Reading::Ask(ask) => Ok(Step::Ask(ask)),
-            Reading::All(noted) => self.go_first(holder, &noted),
-            Reading::Bad(name) => {
-                let end = End::BadObject(Thing::Index, name);
-                Ok(Step::Finish(Outcome::Ended(end)))
-            }
-            Reading::Senseless => Ok(Step::Finish(Outcome::Ended(End::BadReply))),
-            Reading::Unwelcome => Ok(Step::Away),
+            Came::All(noted) => self.go_first(holder, &noted),
+            Came::Step(step) => Ok(step),
         }
     }
 }

@@ -24,8 +24,8 @@ use crate::piece_works::{PieceWork, Took};
 use crate::sending::put_snapshot;
 use crate::walks::Went;
 use repo_index::{IndexText, PackFacts};
-use repo_name::{GREATEST_TARGET, Kind, LEAST_TARGET, Name, Thing};
-use repo_session::{Catalog, Emission, End, Holder, Job, Outcome, Reading, Step, Versions};
+use repo_name::{GREATEST_TARGET, Kind, LEAST_TARGET, Name};
+use repo_session::{Came, Catalog, Emission, End, Holder, Job, Outcome, Step, Versions};
 use repo_tree::Config;
 use repo_wire::{Ask, Say};
 use repo_writing::{Counts, Target, is_full, put_index, put_pack};
@@ -158,14 +158,8 @@ impl PieceJob {
         ensures err { OnErr result ((es : Trace) → PieceReads self.old ask.now es → PieceReads self.new ask.now es) }
     {
         match self.catalog.read_on(self.alloc, ask, say)? {
-            Reading::Ask(ask) => Ok(Step::Ask(ask)),
-            Reading::All(_) => Ok(Step::Want),
-            Reading::Bad(name) => {
-                let end = End::BadObject(Thing::Index, name);
-                Ok(Step::Finish(Outcome::Ended(end)))
-            }
-            Reading::Senseless => Ok(Step::Finish(Outcome::Ended(End::BadReply))),
-            Reading::Unwelcome => Ok(Step::Away),
+            Came::All(_) => Ok(Step::Want),
+            Came::Step(step) => Ok(step),
         }
     }
 

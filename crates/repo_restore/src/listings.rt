@@ -4,11 +4,7 @@ ghost use Rattle.std.specs.Prelude.{◌≡◌, []};
 ghost use Rattle.repo_session.specs.Sessions.{who_in};
 ghost use Rattle.repo_restore.specs.ListStates.{FitsList, IsFreshList};
 
-use repo_name::Thing;
-use repo_session::{
-    Emission, End, Holder, Job, Outcome, Session, SnapshotReading, SnapshotRoll, Step, Versions,
-    Who,
-};
+use repo_session::{Came, Emission, Holder, Job, Outcome, Session, SnapshotRoll, Step, Versions, Who};
 use repo_tree::Config;
 use repo_wire::{Ask, Say};
 use std::alloc::{AllocError, Global};
@@ -74,15 +70,8 @@ impl Job for SnapshotList {
 
     fn reply(&mut self, holder: &Holder, ask: &Ask, say: &Say) -> Result<Step, AllocError> {
         match self.snapshots.read_on(ask, say, holder.versions())? {
-            SnapshotReading::Ask(next) => Ok(Step::Ask(next)),
-            SnapshotReading::All => Ok(Step::Finish(Outcome::Listed(self.snapshots.take_rows()))),
-            SnapshotReading::Bad(name) => {
-                let end = End::BadObject(Thing::Snapshot, name);
-                Ok(Step::Finish(Outcome::Ended(end)))
-            }
-            SnapshotReading::Version => Ok(Step::Finish(Outcome::Ended(End::Version))),
-            SnapshotReading::Senseless => Ok(Step::Finish(Outcome::Ended(End::BadReply))),
-            SnapshotReading::Unwelcome => Ok(Step::Away),
+            Came::All(()) => Ok(Step::Finish(Outcome::Listed(self.snapshots.take_rows()))),
+            Came::Step(step) => Ok(step),
         }
     }
 

@@ -15,8 +15,8 @@ use crate::walks::{Turn, Walk};
 use repo_index::Fact;
 use repo_name::{Kind, Name, Thing, name_of};
 use repo_session::{
-    Catalog, Emission, End, Fetched, Holder, Job, Outcome, Reading, Session, Step, Versions, Who,
-    blob_of, blob_thing, get_ask, range_ask, snapshot_end,
+    Came, Catalog, Emission, End, Fetched, Holder, Job, Outcome, Session, Step, Versions, Who, blob_of,
+    blob_thing, get_ask, range_ask, snapshot_end,
 };
 use repo_tree::{Config, Snapshot};
 use repo_wire::{Ask, Say};
@@ -149,17 +149,11 @@ impl Restore {
         ensures snapshot { self.new.snapshot ≡ self.old.snapshot }
     {
         match self.catalog.read_on(self.alloc, ask, say)? {
-            Reading::Ask(next) => Ok(Step::Ask(next)),
-            Reading::All(_) => {
+            Came::All(_) => {
                 let turn = self.walk.start(&self.catalog.lookup, tree);
                 Ok(self.go_on(version, turn))
             }
-            Reading::Bad(name) => {
-                let end = End::BadObject(Thing::Index, name);
-                Ok(Step::Finish(Outcome::Ended(end)))
-            }
-            Reading::Senseless => Ok(Step::Finish(Outcome::Ended(End::BadReply))),
-            Reading::Unwelcome => Ok(Step::Away),
+            Came::Step(step) => Ok(step),
         }
     }
 

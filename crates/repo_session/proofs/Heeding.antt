@@ -136,6 +136,12 @@ pub welcome_follows : (known : ℕ) (notes : Bool) (e : Exchange) → ¬ IsOfOth
 welcome_follows known notes e understood welcome ends =
     ⊎_elim understood (λ other. ⊎_elim (λ passed. welcome.wanted (unwelcome_of notes e.ask e.say passed)) (useful known notes e welcome) other) ends
 
+-- so is such a page
+pub page_follows : {more : Bool} {names : List Name} (known : ℕ) (notes : Bool) (kind : Kind) (after last : Option Name) (say : Say) (emitted : List Emission) → say ≡ Say.Names more names → after ≡ last → PageRises last more names
+    → MayFollow known notes (giving (Ask.List kind after) say emitted)
+page_follows known notes kind after last say emitted is behind rises =
+    welcome_follows known notes (giving (Ask.List kind after) say emitted) (λ other. other) (page_welcome known kind after last say emitted is behind rises)
+
 -- ---- steps
 
 -- an end that the exchange caused
