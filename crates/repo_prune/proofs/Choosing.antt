@@ -17,7 +17,7 @@ use Rattle.repo_session.specs.Askers.{Asker, Holding}
 use Rattle.repo_session.specs.Deletions.{DeleteDone, NoneDeleted}
 use Rattle.repo_session.specs.Jobs.{HeedsReply, MayAsk, StepsOn}
 use Rattle.repo_session.specs.Listings.{IsSnapshotListing, KnowsSnapshots}
-use Rattle.repo_session.specs.Order.{IsWorking, ReadsKind}
+use Rattle.repo_session.specs.Order.{IsWorking, ReadsKind, Task}
 use Rattle.repo_session.specs.Readings.{IsAskDue, KnowsRoll}
 use Rattle.repo_session.specs.declared.rolls.Roll.{Roll}
 use Rattle.repo_session.specs.Traces.{Each, Exchange, Trace, silent, names_in, IsListed}
@@ -52,19 +52,13 @@ allows_reading choice es (Ask.Unlock t) h policy none = absurd h
 allows_reading choice es Ask.Locks h policy none = absurd h
 allows_reading choice es Ask.Config h policy none = absurd h
 
--- what is due of the reading may be asked for
-pub may_read : (f : Forget) (who : Asker) (es : Trace) (ask : Ask) → GoesByPolicy f.choice → NoneDeleted es → IsAskDue (forget_task who) (KnowsSnapshots f.snapshots) es ask → MayAsk (forget_rule f.choice) who (KnowsForget f) es ask
-may_read f who es ask policy none due = record {
-  work = due.work;
-  may = due.may;
-  allowed = allows_reading f.choice es ask (due_snapshot (forget_task who) f.snapshots es ask due) policy none;
-  knows = inl (none, due.knows);
-}
+-- so it may ask for what is due of the reading
+pub may_read : (f : Forget) (task : Task) (es : Trace) (ask : Ask) → GoesByPolicy f.choice → NoneDeleted es → IsAskDue task (KnowsSnapshots f.snapshots) es ask → ForgetAllows f.choice es ask × KnowsForget f ask es
+may_read f task es ask policy none due = (allows_reading f.choice es ask (due_snapshot task f.snapshots es ask due) policy none, inl (none, due.knows))
 
--- and a page, whichever are chosen
-pub may_page : (f : Forget) (who : Asker) (es : Trace) (ask : Ask) (after : Option Name) → ask ≡ Ask.List Kind.Snapshot after → NoneDeleted es → IsAskDue (forget_task who) (KnowsSnapshots f.snapshots) es ask
-    → MayAsk (forget_rule f.choice) who (KnowsForget f) es ask
-may_page f who es ask after is none due = record { work = due.work; may = due.may; allowed = subst (ForgetAllows f.choice es) (sym is) (refl, none); knows = inl (none, due.knows) }
+-- and for a page, whichever are chosen
+pub may_page : (f : Forget) (es : Trace) (ask : Ask) (after : Option Name) → ask ≡ Ask.List Kind.Snapshot after → NoneDeleted es → KnowsSnapshots f.snapshots ask es → ForgetAllows f.choice es ask × KnowsForget f ask es
+may_page f es ask after is none known = (subst (ForgetAllows f.choice es) (sym is) (refl, none), inl (none, known))
 
 -- where no name is known, a page is asked for
 pub asks_page : (roll : Roll) (ask : Ask) (es : Trace) → roll.kind ≡ Kind.Snapshot → roll.names.items ≡ [] → KnowsRoll roll ask es → (after : Option Name) × (ask ≡ Ask.List Kind.Snapshot after)

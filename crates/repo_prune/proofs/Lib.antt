@@ -20,6 +20,7 @@ pub mod PruneLeaves
 pub mod Relistings
 pub mod Asides
 pub mod Heeding
+pub mod Paging
 pub mod PruneListing
 pub mod Pending
 pub mod PruneStages

@@ -12,17 +12,17 @@ use Rattle.repo_session.specs.Askers.{Asker}
 use Rattle.repo_session.specs.Blobs.{HasCome}
 use Rattle.repo_session.specs.Catalogs.{Catalogs, IsAll}
 use Rattle.repo_session.specs.Ends.{AsksPart}
-use Rattle.repo_session.specs.Jobs.{MayAsk, MayStep}
+use Rattle.repo_session.specs.Jobs.{MayStep}
 use Rattle.repo_session.specs.Listings.{IsSnapshotListing}
-use Rattle.repo_session.specs.Order.{Task, opened, ReadsKind, last_of}
-use Rattle.repo_session.specs.Readings.{IsAskDue, KnowsIndexes, KnowsRoll}
+use Rattle.repo_session.specs.Order.{Task, opened, ReadsKind}
+use Rattle.repo_session.specs.Readings.{KnowsIndexes, KnowsRoll}
 use Rattle.repo_session.specs.Rolls.{IsPaged, IsRolled}
 use Rattle.repo_session.specs.Traces.{Exchange, Trace, WasAsked, same_kind, page_names, is_last_page, object_got}
 use Rattle.repo_session.proofs.Cataloguing.{are_indexed, catalog_on, rolled_on}
 use Rattle.repo_session.proofs.Rolling.{same_self}
 use Rattle.repo_session.proofs.Deleting.{ListsNone, listing_stays}
 use Rattle.repo_prune.specs.Keeping.{Row}
-use Rattle.repo_prune.specs.Pruning.{prune_rule, prune_task, IsReadInTurn, IsWanted, PruneAllows}
+use Rattle.repo_prune.specs.Pruning.{prune_rule, IsReadInTurn, IsWanted, PruneAllows}
 use Rattle.repo_prune.specs.PruneStates.{Known, HasOnlyListed, HaveRead, HasTarget, AreUnlisted, ReadsSnapshots, ReadsIndexes, ListsPacks, IsListingOf, KnowsPrune, KnowsStage, IsNextStep, KnowsAsMuch, HeedsFrom, StepsFrom, known_in}
 use Rattle.repo_prune.specs.declared.prunes.Onward.{Onward}
 use Rattle.repo_prune.specs.declared.prunes.Prune.{Prune}
@@ -406,18 +406,12 @@ knows_listing old Ask.Locks new h is = absurd is
 knows_listing old Ask.Config new h is = absurd is
 
 -- it may be asked for
-pub pack_page : (j : Prune) (who : Asker) (es : Trace) (ask : Ask) → Ask.List j.packs.kind (last_of j.packs.names.items) ≡ ask → IsAskDue (prune_task who) (KnowsRoll j.packs) es ask → ListsPacks j ask es
-    → MayAsk prune_rule who (KnowsPrune j) es ask
-pack_page j who es ask is due h =
-    let page : Ask = Ask.List Kind.Pack (last_of j.packs.names.items) in
-    let same : page ≡ ask = ap (λ k. Ask.List k (last_of j.packs.names.items)) (sym h.of_packs) ∙ is in
-    let indexed = are_indexed j.catalog.roll.kind j.catalog.roll.names.items j.catalog.roll.read j.catalog.lookup es h.indexes h.all in
-    record {
-      work = due.work;
-      may = due.may;
-      allowed = subst (PruneAllows es) same (listed_come es h.untouched, (h.untouched.none_deleted, ((j.snapshots.rows.items, h.snapshots), indexed)));
-      knows = subst (λ a. KnowsPrune j a es) same (subst (λ a. ListsPacks j a es) (sym same) h);
-    }
+pub pack_page : (j : Prune) (es : Trace) (ask : Ask) (after : Option Name) → ask ≡ Ask.List Kind.Pack after → ListsPacks j ask es → PruneAllows es ask × KnowsPrune j ask es
+pack_page j es ask after is h =
+    let indexed = are_indexed j.catalog.roll.kind j.catalog.roll.names.items j.catalog.roll.read j.catalog.lookup es h.indexes h.all in (
+      subst (PruneAllows es) (sym is) (listed_come es h.untouched, (h.untouched.none_deleted, ((j.snapshots.rows.items, h.snapshots), indexed))),
+      subst (λ a. KnowsPrune j a es) (sym is) (subst (λ a. ListsPacks j a es) is h),
+    )
 
 -- ---- all packs are listed
 

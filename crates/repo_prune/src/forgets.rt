@@ -16,10 +16,9 @@ ghost use Rattle.repo_prune.specs.ForgetStates.{FitsForget, IsFreshForget, Knows
 
 use crate::choices::{Choice, ForgetError};
 use crate::picking::{chosen, would_forget};
-use repo_name::{Kind, Name, Names, Thing, Token};
+use repo_name::{Kind, Name, Names};
 use repo_session::{
-    Emission, End, Holder, Job, Outcome, Paging, Session, SnapshotReading, SnapshotRoll, Step,
-    Versions, Who,
+    Came, Emission, Holder, Job, Outcome, Session, SnapshotRoll, Step, Versions, Who,
 };
 use repo_tree::Config;
 use repo_wire::{Ask, Say};
@@ -155,16 +154,14 @@ impl Forget {
     {
         let mark = self.snapshots.mark();
         match self.snapshots.roll.add_page(say)? {
-            Paging::Ask(next) => Ok(Step::Ask(next)),
-            Paging::Last => {
+            Came::All(()) => {
                 let Ok(picked) = self.choose_listed() else {
                     self.snapshots.take_back(mark);
                     return Err(AllocError);
                 };
                 Ok(self.begin(holder, picked))
             }
-            Paging::Senseless => Ok(Step::Finish(Outcome::Ended(End::BadReply))),
-            Paging::Unwelcome => Ok(Step::Away),
+            Came::Step(step) => Ok(step),
         }
     }
 
@@ -180,21 +177,14 @@ impl Forget {
     {
         let mark = self.snapshots.mark();
         match self.snapshots.read_on(ask, say, holder.versions())? {
-            SnapshotReading::Ask(next) => Ok(Step::Ask(next)),
-            SnapshotReading::All => {
+            Came::All(()) => {
                 let Ok(picked) = self.choose_read() else {
                     self.snapshots.take_back(mark);
                     return Err(AllocError);
                 };
                 Ok(self.begin(holder, picked))
             }
-            SnapshotReading::Bad(name) => {
-                let end = End::BadObject(Thing::Snapshot, name);
-                Ok(Step::Finish(Outcome::Ended(end)))
-            }
-            SnapshotReading::Version => Ok(Step::Finish(Outcome::Ended(End::Version))),
-            SnapshotReading::Senseless => Ok(Step::Finish(Outcome::Ended(End::BadReply))),
-            SnapshotReading::Unwelcome => Ok(Step::Away),
+            Came::Step(step) => Ok(step),
         }
     }
 }

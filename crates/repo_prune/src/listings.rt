@@ -8,10 +8,9 @@ ghost use Rattle.repo_wire.specs.declared.messages.Ask.{Ask};
 ghost use Rattle.repo_session.specs.Jobs.{IsShortStep};
 ghost use Rattle.repo_prune.specs.PruneStates.{IsListingOf, StepsFor, StepsFrom, HeedsFor, HeedsFrom, KnowsAsMuch};
 
-use crate::advancing::end;
 use crate::prunes::Prune;
-use repo_name::{Kind, Thing, Token};
-use repo_session::{End, Paging, Reading, SnapshotReading, Step, Versions};
+use repo_name::{Kind, Token};
+use repo_session::{Came, Step, Versions};
 use repo_wire::{Ask, Say};
 use std::alloc::AllocError;
 
@@ -30,12 +29,8 @@ impl Prune {
         ensures knows { OnErr result (IsListingOf Kind.Snapshot ask.now → KnowsAsMuch self.old ask.now self.new) }
     {
         match self.snapshots.read_on(ask, say, versions)? {
-            SnapshotReading::Ask(next) => Ok(Step::Ask(next)),
-            SnapshotReading::All => Ok(Step::Ask(self.catalog.page_ask())),
-            SnapshotReading::Bad(name) => Ok(end(End::BadObject(Thing::Snapshot, name))),
-            SnapshotReading::Version => Ok(end(End::Version)),
-            SnapshotReading::Senseless => Ok(end(End::BadReply)),
-            SnapshotReading::Unwelcome => Ok(Step::Away),
+            Came::All(()) => Ok(Step::Ask(self.catalog.page_ask())),
+            Came::Step(step) => Ok(step),
         }
     }
 
@@ -48,11 +43,8 @@ impl Prune {
         ensures knows { OnErr result (IsListingOf Kind.Index ask.now → KnowsAsMuch self.old ask.now self.new) }
     {
         match self.catalog.read_on(self.alloc, ask, say)? {
-            Reading::Ask(next) => Ok(Step::Ask(next)),
-            Reading::All(_) => Ok(Step::Ask(self.packs.page_ask())),
-            Reading::Bad(name) => Ok(end(End::BadObject(Thing::Index, name))),
-            Reading::Senseless => Ok(end(End::BadReply)),
-            Reading::Unwelcome => Ok(Step::Away),
+            Came::All(_) => Ok(Step::Ask(self.packs.page_ask())),
+            Came::Step(step) => Ok(step),
         }
     }
 
@@ -65,16 +57,14 @@ impl Prune {
     {
         let count = self.packs.names.len();
         match self.packs.add_page(say)? {
-            Paging::Ask(next) => Ok(Step::Ask(next)),
-            Paging::Last => {
+            Came::All(()) => {
                 let Ok(onward) = self.after_lists(token) else {
                     self.packs.names.truncate(count);
                     return Err(AllocError);
                 };
                 Ok(self.go(onward))
             }
-            Paging::Senseless => Ok(end(End::BadReply)),
-            Paging::Unwelcome => Ok(Step::Away),
+            Came::Step(step) => Ok(step),
         }
     }
 

@@ -16,4 +16,5 @@ returns-clause-begins c = λ text fresh reads known.
     let working = opened_working task holding.token text c.args._config.now reads known in
     let due = c.page_ask.ensures.due task holding.token es working fresh.none_read (opened_snapshots f.snapshots task holding.token text fresh) in
     let page = asks_page f.snapshots.roll c.page_ask.result es fresh.of_kind fresh.no_names due.knows.rolls in
-    may_page f holding.who es c.page_ask.result page.0 page.1 (none_deleted_at_first task holding.token text) due
+    let first = may_page f es c.page_ask.result page.0 page.1 (none_deleted_at_first task holding.token text) due.knows in
+    record { work = due.work; may = due.may; allowed = first.0; knows = first.1 }
