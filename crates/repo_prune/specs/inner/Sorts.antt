@@ -1,6 +1,5 @@
 -- Of which sort a reply is.
-use Rattle.std.specs.Prelude.{◌≡◌, ℕ, Bool, List}
-use Rattle.repo_name.specs.declared.names.Name.{Name}
+use Rattle.std.specs.Prelude.{◌≡◌, ℕ, List}
 use Rattle.repo_wire.specs.declared.messages.Say.{Say}
 
 -- bytes
