@@ -1,17 +1,20 @@
 -- A check between its first request and its end.
-use Rattle.std.proofs.Common.{◌≡◌, ◌≢◌, ◌∷◌, [], ℕ, Bool, true, false, List, length, arith, refl, sym, ap, ◌∙◌, inl, inr}
+use Rattle.std.proofs.Common.{◌≡◌, ◌≢◌, ◌∷◌, [], ℕ, Bool, true, false, List, length, arith, refl, sym, ap, subst, ◌∙◌, inl, inr, ⊎_elim}
 use Rattle.std.specs.Bool.{◌==◌}
 use Rattle.std.proofs.lemmas.Bool.{eqb-false, eqb-true}
 use Rattle.repo_wire.specs.declared.messages.Ask.{Ask}
+use Rattle.repo_wire.specs.declared.messages.Say.{Say}
 use Rattle.repo_session.specs.Askers.{Asker}
-use Rattle.repo_session.specs.Ends.{MayConclude}
-use Rattle.repo_session.specs.Jobs.{MayAsk}
+use Rattle.repo_session.specs.Ends.{Concludes, IsNoFaultsEnd, MayConclude}
+use Rattle.repo_session.specs.Jobs.{MayAsk, MayStep}
 use Rattle.repo_session.specs.Order.{IsReading, IsWork, May}
-use Rattle.repo_session.specs.Traces.{Trace}
+use Rattle.repo_session.specs.Traces.{Exchange, Trace, silent}
+use Rattle.repo_session.specs.Versions.{upto}
+use Rattle.repo_session.specs.declared.jobs.Step.{Step}
 use Rattle.repo_session.specs.declared.outcomes.Outcome.{Outcome}
 use Rattle.repo_check.specs.CheckStates.{KnowsCheck}
 use Rattle.repo_check.specs.Checking.{CheckConcludes, check_rule, check_task}
-use Rattle.repo_check.specs.Rounds.{KnowsRound, RoundView}
+use Rattle.repo_check.specs.Rounds.{EndsCheck, KnowsRound, RoundView, StepsOn}
 use Rattle.repo_check.specs.Surveys.{RoundsView, Surveys}
 use Rattle.repo_check.specs.Walks.{WalkView}
 use Rattle.repo_check.specs.declared.checks.Check.{Check}
@@ -58,6 +61,20 @@ pub may_ask : (j : Check) (who : Asker) (es : Trace) (ask : Ask) → May (check_
 may_ask j who es ask may knows =
     let reads = survey_reads _ _ ask es knows in
     record { work = reads_works ask reads; may = may; allowed = (reads, survey_new (check_task who) _ _ ask es may knows); knows = knows }
+
+-- an end of a check is no fault
+ends_so : (who : Asker) (e : Exchange) (es : Trace) (outcome : Outcome) → EndsCheck (upto who.versions) e outcome → MayConclude (upto who.versions) true CheckConcludes (e ∷ es) outcome
+ends_so who e es outcome h =
+    let C : Outcome → Type 0 = λ o. Concludes (upto who.versions) CheckConcludes (e ∷ es) o in
+    let N : Outcome → Type 0 = λ o. IsNoFaultsEnd (e ∷ es) o in
+    (subst C (sym h.0.1) (inl (inl h.0.2)), ⊎_elim (λ is. subst N (sym is) tt) (λ is. subst N (sym is) tt) h.1)
+
+-- what comes of a reply to a request of its survey, but the end of that, it may do
+pub step_turns : (j : Check) (who : Asker) (ask : Ask) (say : Say) (es : Trace) (step : Step) → StepsOn (check_task who) (KnowsCheck j) (silent ask say) es step → MayStep check_rule who (KnowsCheck j) es (silent ask say) step
+step_turns j who ask say es (Step.Ask next) h = (inl refl, may_ask j who (silent ask say ∷ es) next h.1 h.0)
+step_turns j who ask say es (Step.Finish outcome) h = (inl refl, ends_so who (silent ask say) es outcome h)
+step_turns j who ask say es Step.Want h = absurd h
+step_turns j who ask say es Step.Away h = h
 
 -- an outcome by the rule alone, which is no fault
 pub concludes : (known : ℕ) (es : Trace) (outcome : Outcome) → CheckConcludes es outcome → MayConclude known true CheckConcludes es outcome

@@ -8,19 +8,24 @@ use Rattle.repo_wire.specs.declared.messages.Say.{Say}
 use Rattle.repo_index.specs.declared.facts.Fact.{Fact}
 use Rattle.repo_session.specs.Blobs.{range_of}
 use Rattle.repo_store.specs.Pages.{PageRises}
-use Rattle.repo_session.specs.Ends.{EndsAtOnce, IsOfOtherVersion, IsPassedOn, IsSenseless, IsUnwelcome, IsUseless, TellsFault}
+use Rattle.repo_session.specs.Askers.{Asker}
+use Rattle.repo_session.specs.Ends.{IsOfOtherVersion, IsPassedOn, IsSenseless, IsUnwelcome, IsUseless, MayFollow, TellsFault}
+use Rattle.repo_session.specs.Jobs.{HeedsOn}
 use Rattle.repo_session.specs.Order.{Task, May, last_of}
+use Rattle.repo_session.specs.Readings.{TakesPage}
 use Rattle.repo_session.specs.Traces.{Trace, names_in, silent}
 use Rattle.repo_session.specs.Versions.{upto}
+use Rattle.repo_session.specs.declared.jobs.Step.{Step}
+use Rattle.repo_session.specs.declared.outcomes.End.{End}
+use Rattle.repo_session.specs.declared.parts.Came.{Came}
+use Rattle.repo_session.specs.declared.rolls.Roll.{Roll}
 use Rattle.repo_session.specs.declared.versions.Versions.{Versions}
-use Rattle.repo_session.proofs.Heeding.{bytes_wanted, page_welcome, welcome_follows}
+use Rattle.repo_session.proofs.Heeding.{bytes_wanted, heeds_follow, page_follows}
 use Rattle.repo_check.specs.Answers.{Answer, IsAnswer, IsTreeAnswer}
-use Rattle.repo_check.specs.Checking.{CameFor, IsRanged}
-use Rattle.repo_check.specs.Rounds.{HeedsTurn, KnowsRound, RoundView}
-use Rattle.repo_check.specs.Surveys.{GoesAfter, GoesToTrees, HeedsNext, IsEndNext, IsPageBehind, RoundsView, Surveys, last_in}
+use Rattle.repo_check.specs.Checking.{CameFor, IsRanged, check_task}
+use Rattle.repo_check.specs.Rounds.{HeedsCame, KnowsRound, RoundView}
+use Rattle.repo_check.specs.Surveys.{GoesAfter, GoesToTrees, IsPageBehind, RoundsView, Surveys, last_in}
 use Rattle.repo_check.specs.Walks.{WalkView}
-use Rattle.repo_check.specs.declared.rounds.Turn.{Turn}
-use Rattle.repo_check.specs.declared.surveys.Next.{Next}
 use Rattle.repo_check.proofs.Rounding.{got_now, of_any}
 use Rattle.repo_check.proofs.Surveying.{no_range}
 use Rattle.repo_check.proofs.Trailing.{ranged_now}
@@ -55,49 +60,44 @@ tree_noted known fact say a pack offset len is = noted a.bytes (ranged_now fact 
     noted None (inr (inl came)) (inr useless) = subst (λ x. IsUseless known true asked x) came.1 useless tt
     noted None (inr (inr never)) ends = never
 
--- ---- turns
+-- ---- what comes of a reply
 
--- after a page that rises behind the last name any turn may come
-pub page_heeds : {more : Bool} {names : List Name} (known : ℕ) (kind : Kind) (after last : Option Name) (say : Say) (turn : Turn) → say ≡ Say.Names more names → after ≡ last → PageRises last more names
-    → HeedsTurn known (Ask.List kind after) say turn
-page_heeds known kind after last say turn is behind rises = λ ends. absurd (welcome_follows known true (silent (Ask.List kind after) say) (λ other. other) (page_welcome known kind after last say [] is behind rises) ends)
+-- on which a check goes on, anything may come
+pub follow_heeds : (known : ℕ) (ask : Ask) (say : Say) (came : Came (Unit {0})) → MayFollow known true (silent ask say) → HeedsCame known ask say came
+follow_heeds known ask say (Came.All _) follow = follow
+follow_heeds known ask say (Came.Step step) follow = heeds_follow known true (silent ask say) step follow
 
--- one that doesn't makes no sense
-pub senseless_page : {more : Bool} {names : List Name} (known : ℕ) (kind : Kind) (after last : Option Name) (say : Say) → say ≡ Say.Names more names → after ≡ last → ¬ PageRises last more names → IsSenseless known (Ask.List kind after) say
+-- a page that doesn't rise behind the last name makes no sense
+senseless_page : {more : Bool} {names : List Name} (known : ℕ) (kind : Kind) (after last : Option Name) (say : Say) → say ≡ Say.Names more names → after ≡ last → ¬ PageRises last more names → IsSenseless known (Ask.List kind after) say
 senseless_page {more} {names} known kind after last say is behind falls = subst (λ s. IsSenseless known (Ask.List kind after) s) (sym is) (λ rises. falls (subst (λ a. PageRises a more names) behind rises))
 
--- after the answer of an object any turn may come
-pub object_heeds : (known : ℕ) (k : Kind) (n : Name) (say : Say) (a : Answer) (turn : Turn) → IsAnswer n say a → ¬ IsOfOtherVersion known (Ask.Get k n) say → HeedsTurn known (Ask.Get k n) say turn
-object_heeds known k n say a turn is understood = λ ends. absurd (⊎_elim understood (answer_noted known k n say a is) ends)
+-- so it is of a page that isn't the last one
+pub page_heeds : (known : ℕ) (kind : Kind) (after : Option Name) (old new : Roll) (say : Say) (step : Step) → after ≡ last_of old.names.items → TakesPage old say (Came.Step step) new → HeedsOn known true (silent (Ask.List kind after) say) step
+page_heeds known kind after old new say (Step.Ask ask) behind takes = heeds_follow known true (silent (Ask.List kind after) say) (Step.Ask ask) (page_follows known true kind after (last_of old.names.items) say [] takes.0.1 behind takes.0.2)
+page_heeds known kind after old new say (Step.Finish outcome) behind takes = λ ends. (End.BadReply, takes.1, senseless_page known kind after (last_of old.names.items) say takes.0.2 behind takes.0.3)
+page_heeds known kind after old new say Step.Want behind takes = absurd takes
+page_heeds known kind after old new say Step.Away behind takes = λ ends. tt
 
-pub noted_heeds : {E : Type 0} (k : Kind) (n : Name) (say : Say) (a : Answer) (r : Result Turn E) → IsAnswer n say a → ((known : ℕ) → ¬ IsOfOtherVersion known (Ask.Get k n) say) → IfOk r (λ turn. (known : ℕ) → HeedsTurn known (Ask.Get k n) say turn)
+-- after the answer of an object anything may come
+pub object_heeds : (known : ℕ) (k : Kind) (n : Name) (say : Say) (a : Answer) (turn : Came (Unit {0})) → IsAnswer n say a → ¬ IsOfOtherVersion known (Ask.Get k n) say → HeedsCame known (Ask.Get k n) say turn
+object_heeds known k n say a turn is understood = follow_heeds known (Ask.Get k n) say turn (⊎_elim understood (answer_noted known k n say a is))
+
+pub noted_heeds : {E : Type 0} (k : Kind) (n : Name) (say : Say) (a : Answer) (r : Result (Came (Unit {0})) E) → IsAnswer n say a → ((known : ℕ) → ¬ IsOfOtherVersion known (Ask.Get k n) say) → IfOk r (λ turn. (known : ℕ) → HeedsCame known (Ask.Get k n) say turn)
 noted_heeds k n say a r is understood = of_any r _ (λ turn known. object_heeds known k n say a turn is (understood known))
 
--- ---- what comes next
+-- so it does after that of a tree
+pub tree_heeds : (known : ℕ) (fact : Fact) (say : Say) (a : Answer) (pack : Name) (offset len : ℕ) (next : Came (Unit {0})) → IsTreeAnswer fact.name say a → HeedsCame known (Ask.Range pack offset len) say next
+tree_heeds known fact say a pack offset len next is = follow_heeds known (Ask.Range pack offset len) say next (⊎_elim (λ other. other) (tree_noted known fact say a pack offset len is))
 
 -- where a turn ends the round it ends the survey
-pub next_heeds : (known : ℕ) (ask : Ask) (say : Say) (turn : Turn) (last next : Next) → GoesAfter turn last next → HeedsTurn known ask say turn → HeedsNext known ask say next
-next_heeds known ask say (Turn.Ask asked) last next goes heeds = λ ends. absurd (heeds ends)
-next_heeds known ask say Turn.All last next goes heeds = λ ends. absurd (heeds ends)
-next_heeds known ask say Turn.Senseless last next goes heeds = λ ends. subst (λ n. IsEndNext known ask say n) (sym goes) (heeds ends)
-next_heeds known ask say Turn.Version last next goes heeds = λ ends. subst (λ n. IsEndNext known ask say n) (sym goes) (heeds ends)
-next_heeds known ask say Turn.Away last next goes heeds = λ ends. subst (λ n. IsEndNext known ask say n) (sym goes) (heeds ends)
+pub next_heeds : (known : ℕ) (ask : Ask) (say : Say) (turn last next : Came (Unit {0})) → GoesAfter turn last next → HeedsCame known ask say turn → HeedsCame known ask say next
+next_heeds known ask say (Came.All _) last next goes follow = follow_heeds known ask say next follow
+next_heeds known ask say (Came.Step step) last next goes heeds = subst (λ n. HeedsCame known ask say n) (sym goes) heeds
 
 -- so it does after the packs
-pub trees_heed : (known : ℕ) (ask : Ask) (say : Say) (rounds : RoundsView) (walk : WalkView) (turn : Turn) (next : Next) → GoesToTrees rounds walk turn next → HeedsTurn known ask say turn → HeedsNext known ask say next
-trees_heed known ask say rounds walk (Turn.Ask asked) next goes heeds = λ ends. absurd (heeds ends)
-trees_heed known ask say rounds walk Turn.All next goes heeds = λ ends. absurd (heeds ends)
-trees_heed known ask say rounds walk Turn.Senseless next goes heeds = λ ends. subst (λ n. IsEndNext known ask say n) (sym goes) (heeds ends)
-trees_heed known ask say rounds walk Turn.Version next goes heeds = λ ends. subst (λ n. IsEndNext known ask say n) (sym goes) (heeds ends)
-trees_heed known ask say rounds walk Turn.Away next goes heeds = λ ends. subst (λ n. IsEndNext known ask say n) (sym goes) (heeds ends)
-
--- after the answer of a tree anything may come
-pub tree_heeds : (known : ℕ) (fact : Fact) (say : Say) (a : Answer) (pack : Name) (offset len : ℕ) (next : Next) → IsTreeAnswer fact.name say a → HeedsNext known (Ask.Range pack offset len) say next
-tree_heeds known fact say a pack offset len next is = λ ends. absurd (⊎_elim (λ other. other) (tree_noted known fact say a pack offset len is) ends)
-
--- so it is by the versions that who asks knows
-pub asker_heeds : (versions others : Versions) (ask : Ask) (say : Say) (next : Next) → versions ≡ others → HeedsNext (upto versions) ask say next → EndsAtOnce (upto others) true (silent ask say) → IsEndNext (upto others) ask say next
-asker_heeds versions others ask say next same = subst (λ known. HeedsNext (upto known) ask say next) same
+pub trees_heed : (known : ℕ) (ask : Ask) (say : Say) (rounds : RoundsView) (walk : WalkView) (turn next : Came (Unit {0})) → GoesToTrees rounds walk turn next → HeedsCame known ask say turn → HeedsCame known ask say next
+trees_heed known ask say rounds walk (Came.All _) next goes follow = follow_heeds known ask say next follow
+trees_heed known ask say rounds walk (Came.Step step) next goes heeds = subst (λ n. HeedsCame known ask say n) (sym goes) heeds
 
 -- ---- a page is asked for behind the last name of its kind
 
@@ -120,3 +120,8 @@ asks_behind task rounds walk (Ask.Refresh t time) es may h = tt
 asks_behind task rounds walk (Ask.Unlock t) es may h = tt
 asks_behind task rounds walk Ask.Locks es may h = tt
 asks_behind task rounds walk Ask.Config es may h = tt
+
+-- so all of it is heeded by the versions that who asks knows, where the request was pending
+pub asker_heeds : (versions : Versions) (who : Asker) (rounds : RoundsView) (walk : WalkView) (ask : Ask) (say : Say) (next : Came (Unit {0})) (es : Trace) → versions ≡ who.versions → (IsPageBehind rounds ask → HeedsCame (upto versions) ask say next)
+    → May (check_task who) es ask → Surveys rounds walk ask es → HeedsCame (upto who.versions) ask say next
+asker_heeds versions who rounds walk ask say next es same heeds may knows = subst (λ v. HeedsCame (upto v) ask say next) same (heeds (asks_behind (check_task who) rounds walk ask es may knows))

@@ -1,5 +1,5 @@
 -- What is visited, whether a walk is over or not, is what the snapshots reach in the trees that came.
-use Rattle.std.proofs.Common.{arith, ◌≡◌, ◌+◌, ◌++◌, ◌∷◌, [], ℕ, Bool, zero, suc, true, false, List, length, Option, Some, None, refl, ap, subst, inl, inr, ◌∙◌, length-append, Contains}
+use Rattle.std.proofs.Common.{arith, ◌≡◌, ◌++◌, ◌∷◌, [], ℕ, Bool, zero, suc, true, false, List, length, Option, Some, None, refl, ap, subst, inl, inr, ◌∙◌, length-append, Contains}
 use Rattle.repo_name.specs.declared.kinds.BlobKind.TheVariants.{Content, Tree}
 use Rattle.repo_name.specs.declared.kinds.Kind.{Kind}
 use Rattle.repo_name.specs.declared.names.Name.{Name}

@@ -15,21 +15,46 @@ use Rattle.repo_wire.specs.declared.messages.Say.{Say}
 use Rattle.repo_store.specs.Pages.{Above, Has, NamesAscend}
 use Rattle.repo_store.proofs.PageLemmas.{has_left, has_right}
 use Rattle.repo_session.specs.Ends.{IsOfOtherVersion}
-use Rattle.repo_session.specs.Order.{Task, IsWorking, May}
-use Rattle.repo_session.specs.Readings.{KnowsRoll}
+use Rattle.repo_session.specs.Order.{Task, IsWorking, May, last_of}
+use Rattle.repo_session.specs.Readings.{KnowsRoll, Pages, TakesPage}
 use Rattle.repo_session.specs.Rolls.{IsNamedObject, IsPaged, IsRolled}
 use Rattle.repo_session.specs.Traces.{Each, Exchange, Exchanged, Trace, WasAsked, Object, same_kind, page_names, is_last_page, object_got, objects_in, silent}
 use Rattle.repo_session.proofs.Rolling.{has_got, paged_on}
 use Rattle.repo_session.specs.Versions.{upto}
+use Rattle.repo_session.specs.declared.jobs.Step.{Step}
+use Rattle.repo_session.specs.declared.outcomes.End.{End}
+use Rattle.repo_session.specs.declared.outcomes.Outcome.{Outcome}
+use Rattle.repo_session.specs.declared.parts.Came.{Came}
 use Rattle.repo_session.specs.declared.versions.Versions.{Versions}
 use Rattle.repo_reach.specs.declared.roots.Root.{Root}
 use Rattle.repo_check.specs.Answers.{Answer, IsAnswer}
 use Rattle.repo_check.specs.Arrivals.{IsRootOf, TellsNothing}
 use Rattle.repo_check.specs.Checking.{CameFor, AreGot}
-use Rattle.repo_check.specs.Rounds.{ArePast, IsUntouched, RoundIsListing, IsWholeRound, AsksNext, KnowsRound, TurnsOn, TakesObject, TakesSnapshot, Match, IsNoteOf, AreNoted, RoundView, round_of}
+use Rattle.repo_check.specs.Rounds.{ArePast, ComesOn, IsUntouched, RoundIsListing, IsWholeRound, AsksNext, KnowsRound, StepsOn, TurnsOn, TurnsWith, TakesObject, TakesSnapshot, Match, IsNoteOf, AreNoted, RoundView, round_of}
 use Rattle.repo_check.specs.declared.rounds.Note.{Note}
 use Rattle.repo_check.specs.declared.rounds.Round.{Round}
-use Rattle.repo_check.specs.declared.rounds.Turn.{Turn}
+
+-- ---- what comes of an exchange, by what else is known
+
+module _ (task : Task) (e : Exchange) (es : Trace) (Knows Other : Ask → Trace → Type 0) (on : (ask : Ask) → Knows ask (e ∷ es) → Other ask (e ∷ es)) where
+  pub steps_as : (step : Step) → StepsOn task Knows e es step → StepsOn task Other e es step
+  steps_as (Step.Ask ask) h = (on ask h.0, h.1)
+  steps_as (Step.Finish outcome) h = h
+  steps_as Step.Want h = h
+  steps_as Step.Away h = h
+
+  pub comes_as : (Holds More : Trace → Type 0) → (Holds (e ∷ es) → More (e ∷ es)) → (came : Came (Unit {0})) → ComesOn task Knows Holds came e es → ComesOn task Other More came e es
+  comes_as Holds More all (Came.All _) h = all h
+  comes_as Holds More all (Came.Step step) h = steps_as step h
+
+-- what holds besides is known, and one thing of another
+module _ {T : Type 0} (task : Task) (k : Kind) (round : RoundView T) (turn : Came (Unit {0})) (e : Exchange) (es : Trace) where
+  pub turns_with : (Holds : Trace → Type 0) → Holds (e ∷ es) → TurnsOn task k round turn e es → TurnsWith task k round Holds turn e es
+  turns_with Holds h = comes_as task e es (KnowsRound k round) (λ ask fs. KnowsRound k round ask fs × Holds fs) (λ ask knows. (knows, h)) (IsWholeRound k round) (λ fs. IsWholeRound k round fs × Holds fs) (λ whole. (whole, h)) turn
+
+  pub turns_as : (Holds More : Trace → Type 0) → (Holds (e ∷ es) → More (e ∷ es)) → TurnsWith task k round Holds turn e es → TurnsWith task k round More turn e es
+  turns_as Holds More more = comes_as task e es (λ ask fs. KnowsRound k round ask fs × Holds fs) (λ ask fs. KnowsRound k round ask fs × More fs) (λ ask both. (both.0, more both.1))
+      (λ fs. IsWholeRound k round fs × Holds fs) (λ fs. IsWholeRound k round fs × More fs) (λ both. (both.0, more both.1)) turn
 
 -- ---- what comes next
 
@@ -38,17 +63,14 @@ may_get : (task : Task) (token : Token) (k : Kind) (names : List Name) (i : ℕ)
 may_get task token k names i n es w paged next = ((token, w), inl (paged.rise, subst (λ ns. Has ns n) (sym paged.listed) (has_got names i n next)))
 
 module _ {T : Type 0} where
-  pub next_on : (task : Task) (token : Token) (k : Kind) (round : RoundView T) (turn : Turn) (e : Exchange) (es : Trace) → IsWorking task token (e ∷ es) → round.kind ≡ k → IsPaged k round.names true (e ∷ es)
+  pub next_on : (task : Task) (token : Token) (k : Kind) (round : RoundView T) (turn : Came (Unit {0})) (e : Exchange) (es : Trace) → IsWorking task token (e ∷ es) → round.kind ≡ k → IsPaged k round.names true (e ∷ es)
       → AsksNext round turn → TurnsOn task k round turn e es
-  next_on task token k round (Turn.Ask ask) e es w kind paged asks =
+  next_on task token k round (Came.All _) e es w kind paged asks = record { of_kind = kind; paged = paged; all = asks }
+  next_on task token k round (Came.Step step) e es w kind paged asks =
       let n = asks.0 in
-      let is : Ask.Get k n ≡ ask = ap (λ j. Ask.Get j n) (sym kind) ∙ sym asks.1 in
-      subst (λ a. KnowsRound k round a (e ∷ es) × May task (e ∷ es) a) is
+      let is : Step.Ask (Ask.Get k n) ≡ step = ap (λ j. Step.Ask (Ask.Get j n)) (sym kind) ∙ sym asks.1 in
+      subst (λ s. StepsOn task (KnowsRound k round) e es s) is
       ((refl, record { of_kind = kind; paged = paged; next = asks.2 }), may_get task token k round.names (length round.notes) n (e ∷ es) w paged asks.2)
-  next_on task token k round Turn.All e es w kind paged asks = record { of_kind = kind; paged = paged; all = asks }
-  next_on task token k round Turn.Senseless e es w kind paged asks = absurd asks
-  next_on task token k round Turn.Version e es w kind paged asks = absurd asks
-  next_on task token k round Turn.Away e es w kind paged asks = absurd asks
 
   -- what the roll knows while its pages come
   pub listing_rolls : (k : Kind) (own : Round T) (after : Option Name) (es : Trace) → RoundIsListing k (round_of own) es → KnowsRoll own.roll (Ask.List k after) es
@@ -223,6 +245,21 @@ module _ (k : Kind) where
       let p = past a was in
       (p.0, has_left names (n ∷ page) p.0 p.1, p.2)
 
+-- ---- a page that isn't the last one
+
+module _ {T : Type 0} where
+  pub page_steps : (task : Task) (k : Kind) (old new : Round T) (after : Option Name) (say : Say) (es : Trace) (step : Step) → new.roll.kind ≡ old.roll.kind → new.roll.read ≡ old.roll.read → new.notes ≡ old.notes → TakesPage old.roll say (Came.Step step) new.roll
+      → May task es (Ask.List k after) → RoundIsListing k (round_of old) es → Pages (upto task.versions) task new.roll (Came.Step step) (silent (Ask.List k after) say) es → StepsOn task (KnowsRound k (round_of new)) (silent (Ask.List k after) say) es step
+  page_steps task k old new after say es (Step.Ask ask) kind read notes takes may listing due =
+      let e = silent (Ask.List k after) say in
+      let page = takes.0 in
+      let rises = subst (λ a. NamesAscend a page.0) (sym (may.1.last ∙ ap last_of listing.rolled.paged.listed)) page.2.0 in
+      let past = subst (λ ns. ArePast k ns (e ∷ es)) (sym page.3) (past_on k old.roll.names.items page.0 after say es rises (page.2.1 refl) listing.past) in
+      (roll_known k new ask (e ∷ es) (kind ∙ listing.of_kind) (read ∙ listing.none_read) (ap (λ v. v.items) notes ∙ listing.none) past due.1.knows, due.1.may)
+  page_steps task k old new after say es (Step.Finish outcome) kind read notes takes may listing ends = (ends, inl takes.1)
+  page_steps task k old new after say es Step.Want kind read notes takes may listing never = never
+  page_steps task k old new after say es Step.Away kind read notes takes may listing unwelcome = (unwelcome, λ tells. tells)
+
 -- ---- notes
 
 -- a request for another thing adds nothing to what was said to this
@@ -343,16 +380,17 @@ module _ {T : Type 0} (k : Kind) (Gives : Answer → T → Type 0) where
       })
 
   -- what is known after an object was noted
-  pub taken : (old new : RoundView T) (note : Note T) (n : Name) (say : Say) (turn : Turn) → ((a : Answer) × IsAnswer n say a × IsNoteOf k Gives a note) → new.kind ≡ old.kind → new.names ≡ old.names → new.notes ≡ old.notes ++ note ∷ [] → AsksNext new turn → TakesObject k Gives old n say turn new
+  pub taken : (old new : RoundView T) (note : Note T) (n : Name) (say : Say) (turn : Came (Unit {0})) → ((a : Answer) × IsAnswer n say a × IsNoteOf k Gives a note) → new.kind ≡ old.kind → new.names ≡ old.names → new.notes ≡ old.notes ++ note ∷ [] → AsksNext new turn → TakesObject k Gives old n say turn new
   taken old new note n say turn look kind names notes asks = λ task token es w getting noted.
       let e = silent (Ask.Get k n) say in
       let paged = paged_on k e old.names true es refl refl (λ after same. absurd (cc same)) getting.paged in
       let more = noted_more old.names old.notes new.notes note n say look.0 es noted getting.next look.1 look.2 notes in
-      (next_on task token k new turn e es w (kind ∙ getting.of_kind) (subst (λ ns. IsPaged k ns true (e ∷ es)) (sym names) paged) asks, λ goes. subst (λ ns. AreNoted k Gives ns new.notes (e ∷ es)) (sym names) more)
+      turns_with task k new turn e es (AreNoted k Gives new.names new.notes) (subst (λ ns. AreNoted k Gives ns new.notes (e ∷ es)) (sym names) more)
+      (next_on task token k new turn e es w (kind ∙ getting.of_kind) (subst (λ ns. IsPaged k ns true (e ∷ es)) (sym names) paged) asks)
 
   -- a reply that tells nothing ends the round
-  pub ended : (round : RoundView T) (n : Name) (say : Say) → TellsNothing (Ask.Get k n) say → TakesObject k Gives round n say Turn.Away round
-  ended round n say nothing = λ task token es w getting noted. (nothing, λ goes. absurd goes)
+  pub ended : (round : RoundView T) (n : Name) (say : Say) → TellsNothing (Ask.Get k n) say → TakesObject k Gives round n say (Came.Step Step.Away) round
+  ended round n say nothing = λ task token es w getting noted. nothing
 
   -- once all are noted they were received
   pub all_got : (round : RoundView T) (es : Trace) → IsWholeRound k round es → (h : AreNoted k Gives round.names round.notes es) → AreGot es k h.answers
@@ -388,11 +426,9 @@ err_with (Err e) f a = f a
 
 -- ---- snapshots, of who knows some versions
 
-pub by_versions : (versions : Versions) (old new : RoundView Root) (n : Name) (say : Say) (turn : Turn) → TakesObject Kind.Snapshot IsRootOf old n say turn new → TakesSnapshot versions old n say turn new
+pub by_versions : (versions : Versions) (old new : RoundView Root) (n : Name) (say : Say) (turn : Came (Unit {0})) → TakesObject Kind.Snapshot IsRootOf old n say turn new → TakesSnapshot versions old n say turn new
 by_versions versions old new n say turn h = λ task token es is w getting noted. h task token es w getting noted
 
-pub other_version : (versions : Versions) (round : RoundView Root) (n : Name) (say : Say) → IsOfOtherVersion (upto versions) (Ask.Get Kind.Snapshot n) say → TakesSnapshot versions round n say Turn.Version round
-other_version versions round n say h = λ task token es is w getting noted. (
-  subst (λ v. IsOfOtherVersion (upto v) (Ask.Get Kind.Snapshot n) say) (sym is) h,
-  λ goes. absurd goes,
-)
+pub other_version : (versions : Versions) (round : RoundView Root) (n : Name) (say : Say) → IsOfOtherVersion (upto versions) (Ask.Get Kind.Snapshot n) say
+    → TakesSnapshot versions round n say (Came.Step (Step.Finish (Outcome.Ended End.Version))) round
+other_version versions round n say h = λ task token es is w getting noted. ((End.Version, refl, subst (λ v. IsOfOtherVersion (upto v) (Ask.Get Kind.Snapshot n) say) (sym is) h), inr refl)

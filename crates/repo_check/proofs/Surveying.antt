@@ -12,20 +12,19 @@ use Rattle.repo_session.specs.Rolls.{IsRolled}
 use Rattle.repo_session.specs.Traces.{Exchange, Exchanged, Trace, silent}
 use Rattle.repo_session.proofs.Holding.{opened_working}
 use Rattle.repo_session.specs.Versions.{upto}
+use Rattle.repo_session.specs.declared.parts.Came.{Came}
 use Rattle.repo_session.specs.declared.versions.Versions.{Versions}
 use Rattle.repo_reach.specs.declared.roots.Root.{Root}
 use Rattle.repo_session.proofs.Rolling.{may_page, opened_rolled}
 use Rattle.repo_tree.specs.ConfigText.{IsConfigText}
 use Rattle.repo_tree.specs.declared.configs.Config.{Config}
 use Rattle.repo_check.specs.Arrivals.{IsIndexOf, IsPackOf, IsRootOf}
-use Rattle.repo_check.specs.Rounds.{AreNoted, ArePast, GoesOn, IsFreshRound, RoundIsListing, IsUntouched, IsWholeRound, KnowsRound, PagesRound, RoundView, TakesObject, TakesSnapshot, TurnsOn}
+use Rattle.repo_check.specs.Rounds.{AreNoted, ArePast, IsFreshRound, RoundIsListing, IsUntouched, IsWholeRound, KnowsRound, PagesRound, RoundView, TakesObject, TakesSnapshot, TurnsWith}
 use Rattle.repo_check.specs.Surveys.{AtIndexes, AtPacks, AtSnapshots, AtTrees, GoesAfter, HasTaken, IsFirst, IsFreshSurvey, IsUnranged, KnowsNotes, RoundsView, Surveys, SurveysOn, first_page}
 use Rattle.repo_check.specs.Walks.{Awaits, TreeIsNoted, WalkView}
 use Rattle.repo_check.specs.declared.knowing.TreeNote.{TreeNote}
 use Rattle.repo_check.specs.declared.rounds.Note.{Note}
-use Rattle.repo_check.specs.declared.rounds.Turn.{Turn}
-use Rattle.repo_check.specs.declared.surveys.Next.{Next}
-use Rattle.repo_check.proofs.Rounding.{IsAside, heard_before, heard_of, none_noted, noted_grow, noted_page, paged_aside, untouched_aside}
+use Rattle.repo_check.proofs.Rounding.{IsAside, heard_before, heard_of, none_noted, noted_grow, noted_page, paged_aside, steps_as, turns_as, turns_with, untouched_aside}
 
 -- ---- a round that begins
 
@@ -53,30 +52,23 @@ module _ (task : Task) (token : Token) (rounds : RoundsView) (walk : WalkView) (
   abbrev now : Trace
   now = e ∷ es
 
-  known : Ask → Type 0
-  known ask = Surveys rounds walk ask now × May task now ask
-
-  pub snapshots_go : (turn : Turn) (next : Next) → (GoesOn turn → KnowsNotes rounds now) → IsUnranged now → TurnsOn task Kind.Snapshot rounds.snapshots turn e es → IsFreshRound Kind.Index rounds.indexes → IsUntouched Kind.Index now
+  pub snapshots_go : (turn next : Came (Unit {0})) → IsUnranged now → TurnsWith task Kind.Snapshot rounds.snapshots (KnowsNotes rounds) turn e es → IsFreshRound Kind.Index rounds.indexes → IsUntouched Kind.Index now
       → IsFreshRound Kind.Pack rounds.packs → IsUntouched Kind.Pack now → GoesAfter turn (first_page rounds.indexes) next → SurveysOn task rounds walk next e es
-  snapshots_go (Turn.Ask ask) next notes none on fi ui fp up is =
-      subst (λ n. SurveysOn task rounds walk n e es) (sym is) ((notes tt, inl (record { snapshots = on.0; indexes = fi; no_indexes = ui; packs = fp; no_packs = up; no_trees = none })), on.1)
-  snapshots_go Turn.All next notes none on fi ui fp up is =
+  snapshots_go (Came.All _) next none on fi ui fp up is =
       let first = begins Kind.Index rounds.indexes task token now w fi ui in
-      subst (λ n. SurveysOn task rounds walk n e es) (sym is) ((notes tt, inr (inl (record { snapshots = on; indexes = first.0; packs = fp; no_packs = up; no_trees = none }))), first.1)
-  snapshots_go Turn.Senseless next notes none on fi ui fp up is = subst (λ n. SurveysOn task rounds walk n e es) (sym is) on
-  snapshots_go Turn.Version next notes none on fi ui fp up is = subst (λ n. SurveysOn task rounds walk n e es) (sym is) on
-  snapshots_go Turn.Away next notes none on fi ui fp up is = subst (λ n. SurveysOn task rounds walk n e es) (sym is) on
+      subst (λ n. SurveysOn task rounds walk n e es) (sym is) ((on.1, inr (inl (record { snapshots = on.0; indexes = first.0; packs = fp; no_packs = up; no_trees = none }))), first.1)
+  snapshots_go (Came.Step step) next none on fi ui fp up is =
+      subst (λ n. SurveysOn task rounds walk n e es) (sym is) (steps_as task e es (λ ask fs. KnowsRound Kind.Snapshot rounds.snapshots ask fs × KnowsNotes rounds fs) (Surveys rounds walk)
+      (λ ask both. (both.1, inl (record { snapshots = both.0; indexes = fi; no_indexes = ui; packs = fp; no_packs = up; no_trees = none }))) step on)
 
-  pub indexes_go : (turn : Turn) (next : Next) → (GoesOn turn → KnowsNotes rounds now) → IsUnranged now → IsWholeRound Kind.Snapshot rounds.snapshots now → TurnsOn task Kind.Index rounds.indexes turn e es → IsFreshRound Kind.Pack rounds.packs → IsUntouched Kind.Pack now
+  pub indexes_go : (turn next : Came (Unit {0})) → IsUnranged now → IsWholeRound Kind.Snapshot rounds.snapshots now → TurnsWith task Kind.Index rounds.indexes (KnowsNotes rounds) turn e es → IsFreshRound Kind.Pack rounds.packs → IsUntouched Kind.Pack now
       → GoesAfter turn (first_page rounds.packs) next → SurveysOn task rounds walk next e es
-  indexes_go (Turn.Ask ask) next notes none ws on fp up is =
-      subst (λ n. SurveysOn task rounds walk n e es) (sym is) ((notes tt, inr (inl (record { snapshots = ws; indexes = on.0; packs = fp; no_packs = up; no_trees = none }))), on.1)
-  indexes_go Turn.All next notes none ws on fp up is =
+  indexes_go (Came.All _) next none ws on fp up is =
       let first = begins Kind.Pack rounds.packs task token now w fp up in
-      subst (λ n. SurveysOn task rounds walk n e es) (sym is) ((notes tt, inr (inr (inl (record { snapshots = ws; indexes = on; packs = first.0; no_trees = none })))), first.1)
-  indexes_go Turn.Senseless next notes none ws on fp up is = subst (λ n. SurveysOn task rounds walk n e es) (sym is) on
-  indexes_go Turn.Version next notes none ws on fp up is = subst (λ n. SurveysOn task rounds walk n e es) (sym is) on
-  indexes_go Turn.Away next notes none ws on fp up is = subst (λ n. SurveysOn task rounds walk n e es) (sym is) on
+      subst (λ n. SurveysOn task rounds walk n e es) (sym is) ((on.1, inr (inr (inl (record { snapshots = ws; indexes = on.0; packs = first.0; no_trees = none })))), first.1)
+  indexes_go (Came.Step step) next none ws on fp up is =
+      subst (λ n. SurveysOn task rounds walk n e es) (sym is) (steps_as task e es (λ ask fs. KnowsRound Kind.Index rounds.indexes ask fs × KnowsNotes rounds fs) (Surveys rounds walk)
+      (λ ask both. (both.1, inr (inl (record { snapshots = ws; indexes = both.0; packs = fp; no_packs = up; no_trees = none })))) step on)
 
 -- ---- which round a request is of
 
@@ -129,7 +121,7 @@ module _ (rounds : RoundsView) (walk : WalkView) (es : Trace) where
 -- ---- a page
 
 -- where nothing is noted of a kind whose names came, this is known of the notes
-module _ (old new : RoundsView) (walk : WalkView) (say : Say) (turn : Turn) (next : Next) where
+module _ (old new : RoundsView) (walk : WalkView) (say : Say) (turn next : Came (Unit {0})) where
   pub snapshots_page : (pages : PagesRound old.snapshots say turn new.snapshots) → new.snapshots.notes ≡ old.snapshots.notes → new.indexes ≡ old.indexes → new.packs ≡ old.packs → GoesAfter turn (first_page new.indexes) next
       → (task : Task) (token : Token) (after : Option Name) (es : Trace) → IsWorking task token (silent (Ask.List Kind.Snapshot after) say ∷ es) → May task es (Ask.List Kind.Snapshot after)
       → Surveys old walk (Ask.List Kind.Snapshot after) es → SurveysOn task new walk next (silent (Ask.List Kind.Snapshot after) say) es
@@ -142,7 +134,7 @@ module _ (old new : RoundsView) (walk : WalkView) (say : Say) (turn : Turn) (nex
         indexes = subst (λ (r : RoundView (List PackFacts)). AreNoted Kind.Index IsIndexOf r.names r.notes (e ∷ es)) (sym indexes) (noted_grow Kind.Index IsIndexOf old.indexes.names old.indexes.notes e es (λ n is. absurd (cc is)) h.0.indexes);
         packs = subst (λ (r : RoundView (List Fact)). AreNoted Kind.Pack IsPackOf r.names r.notes (e ∷ es)) (sym packs) (noted_grow Kind.Pack IsPackOf old.packs.names old.packs.notes e es (λ n is. absurd (cc is)) h.0.packs);
       } in
-      snapshots_go task token new walk e es w turn next (λ goes_on. known) (unranged_on e es (λ pack offset len is. absurd (cc is)) at.no_trees) (pages task token Kind.Snapshot after es w may listing) (subst (λ r. IsFreshRound Kind.Index r) (sym indexes) at.indexes) (untouched_aside Kind.Index e es refl at.no_indexes)
+      snapshots_go task token new walk e es w turn next (unranged_on e es (λ pack offset len is. absurd (cc is)) at.no_trees) (turns_with task Kind.Snapshot new.snapshots turn e es (KnowsNotes new) known (pages task token Kind.Snapshot after es w may listing)) (subst (λ r. IsFreshRound Kind.Index r) (sym indexes) at.indexes) (untouched_aside Kind.Index e es refl at.no_indexes)
       (subst (λ r. IsFreshRound Kind.Pack r) (sym packs) at.packs) (untouched_aside Kind.Pack e es refl at.no_packs) goes
 
   pub snapshots_got : (versions : Versions) (n : Name) (takes : TakesSnapshot versions old.snapshots n say turn new.snapshots) → new.indexes ≡ old.indexes → new.packs ≡ old.packs → GoesAfter turn (first_page new.indexes) next
@@ -151,12 +143,12 @@ module _ (old new : RoundsView) (walk : WalkView) (say : Say) (turn : Turn) (nex
       let e = silent (Ask.Get Kind.Snapshot n) say in
       let at = getting_snapshots old walk es n h in
       let took = takes task token es known_to w at.snapshots.1 h.0.snapshots in
-      let known : GoesOn turn → KnowsNotes new (e ∷ es) = λ goes_on. record {
-        snapshots = took.1 goes_on;
+      let known : AreNoted Kind.Snapshot IsRootOf new.snapshots.names new.snapshots.notes (e ∷ es) → KnowsNotes new (e ∷ es) = λ noted. record {
+        snapshots = noted;
         indexes = subst (λ (r : RoundView (List PackFacts)). AreNoted Kind.Index IsIndexOf r.names r.notes (e ∷ es)) (sym indexes) (noted_grow Kind.Index IsIndexOf old.indexes.names old.indexes.notes e es (λ n is. absurd (cc is)) h.0.indexes);
         packs = subst (λ (r : RoundView (List Fact)). AreNoted Kind.Pack IsPackOf r.names r.notes (e ∷ es)) (sym packs) (noted_grow Kind.Pack IsPackOf old.packs.names old.packs.notes e es (λ n is. absurd (cc is)) h.0.packs);
       } in
-      snapshots_go task token new walk e es w turn next known (unranged_on e es (λ pack offset len is. absurd (cc is)) at.no_trees) took.0 (subst (λ r. IsFreshRound Kind.Index r) (sym indexes) at.indexes) (untouched_aside Kind.Index e es refl at.no_indexes)
+      snapshots_go task token new walk e es w turn next (unranged_on e es (λ pack offset len is. absurd (cc is)) at.no_trees) (turns_as task Kind.Snapshot new.snapshots turn e es (AreNoted Kind.Snapshot IsRootOf new.snapshots.names new.snapshots.notes) (KnowsNotes new) known took) (subst (λ r. IsFreshRound Kind.Index r) (sym indexes) at.indexes) (untouched_aside Kind.Index e es refl at.no_indexes)
       (subst (λ r. IsFreshRound Kind.Pack r) (sym packs) at.packs) (untouched_aside Kind.Pack e es refl at.no_packs) goes
 
   pub indexes_page : (pages : PagesRound old.indexes say turn new.indexes) → new.indexes.notes ≡ old.indexes.notes → new.snapshots ≡ old.snapshots → new.packs ≡ old.packs → GoesAfter turn (first_page new.packs) next
@@ -171,8 +163,8 @@ module _ (old new : RoundsView) (walk : WalkView) (say : Say) (turn : Turn) (nex
         indexes = noted_page Kind.Index IsIndexOf old.indexes new.indexes e es listing.none notes (λ n is. absurd (cc is)) h.0.indexes;
         packs = subst (λ (r : RoundView (List Fact)). AreNoted Kind.Pack IsPackOf r.names r.notes (e ∷ es)) (sym packs) (noted_grow Kind.Pack IsPackOf old.packs.names old.packs.notes e es (λ n is. absurd (cc is)) h.0.packs);
       } in
-      indexes_go task token new walk e es w turn next (λ goes_on. known) (unranged_on e es (λ pack offset len is. absurd (cc is)) at.no_trees)
-      (subst (λ r. IsWholeRound Kind.Snapshot r (e ∷ es)) (sym snapshots) (whole_aside Kind.Snapshot old.snapshots e es refl at.snapshots)) (pages task token Kind.Index after es w may listing)
+      indexes_go task token new walk e es w turn next (unranged_on e es (λ pack offset len is. absurd (cc is)) at.no_trees)
+      (subst (λ r. IsWholeRound Kind.Snapshot r (e ∷ es)) (sym snapshots) (whole_aside Kind.Snapshot old.snapshots e es refl at.snapshots)) (turns_with task Kind.Index new.indexes turn e es (KnowsNotes new) known (pages task token Kind.Index after es w may listing))
       (subst (λ r. IsFreshRound Kind.Pack r) (sym packs) at.packs) (untouched_aside Kind.Pack e es refl at.no_packs) goes
 
   pub indexes_got : (n : Name) (takes : TakesObject Kind.Index IsIndexOf old.indexes n say turn new.indexes) → new.snapshots ≡ old.snapshots → new.packs ≡ old.packs → GoesAfter turn (first_page new.packs) next
@@ -181,13 +173,13 @@ module _ (old new : RoundsView) (walk : WalkView) (say : Say) (turn : Turn) (nex
       let e = silent (Ask.Get Kind.Index n) say in
       let at = getting_indexes old walk es n h in
       let took = takes task token es w at.indexes.1 h.0.indexes in
-      let known : GoesOn turn → KnowsNotes new (e ∷ es) = λ goes_on. record {
+      let known : AreNoted Kind.Index IsIndexOf new.indexes.names new.indexes.notes (e ∷ es) → KnowsNotes new (e ∷ es) = λ noted. record {
         snapshots = subst (λ (r : RoundView Root). AreNoted Kind.Snapshot IsRootOf r.names r.notes (e ∷ es)) (sym snapshots) (noted_grow Kind.Snapshot IsRootOf old.snapshots.names old.snapshots.notes e es (λ n is. absurd (cc is)) h.0.snapshots);
-        indexes = took.1 goes_on;
+        indexes = noted;
         packs = subst (λ (r : RoundView (List Fact)). AreNoted Kind.Pack IsPackOf r.names r.notes (e ∷ es)) (sym packs) (noted_grow Kind.Pack IsPackOf old.packs.names old.packs.notes e es (λ n is. absurd (cc is)) h.0.packs);
       } in
-      indexes_go task token new walk e es w turn next known (unranged_on e es (λ pack offset len is. absurd (cc is)) at.no_trees)
-      (subst (λ r. IsWholeRound Kind.Snapshot r (e ∷ es)) (sym snapshots) (whole_aside Kind.Snapshot old.snapshots e es refl at.snapshots)) took.0
+      indexes_go task token new walk e es w turn next (unranged_on e es (λ pack offset len is. absurd (cc is)) at.no_trees)
+      (subst (λ r. IsWholeRound Kind.Snapshot r (e ∷ es)) (sym snapshots) (whole_aside Kind.Snapshot old.snapshots e es refl at.snapshots)) (turns_as task Kind.Index new.indexes turn e es (AreNoted Kind.Index IsIndexOf new.indexes.names new.indexes.notes) (KnowsNotes new) known took)
       (subst (λ r. IsFreshRound Kind.Pack r) (sym packs) at.packs) (untouched_aside Kind.Pack e es refl at.no_packs) goes
 
 -- ---- requests of a survey

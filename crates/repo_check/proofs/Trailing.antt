@@ -17,6 +17,7 @@ use Rattle.repo_index.specs.declared.facts.PackFacts.{PackFacts}
 use Rattle.repo_session.specs.Blobs.{range_of}
 use Rattle.repo_session.specs.Order.{Task, IsWorking, May}
 use Rattle.repo_session.specs.Traces.{Each, Exchange, Trace, ReadFact, silent}
+use Rattle.repo_session.specs.declared.parts.Came.{Came}
 use Rattle.repo_name.proofs.Containing.{contains_got}
 use Rattle.repo_reach.specs.declared.roots.Root.{Root}
 use Rattle.repo_name.proofs.Containing.{contained_or, none_contained}
@@ -24,16 +25,14 @@ use Rattle.repo_check.specs.Answers.{Answer, IsTreeAnswer}
 use Rattle.repo_check.specs.Arrivals.{IsIndexOf, IsPackOf, IsRootOf}
 use Rattle.repo_check.specs.Checking.{CameFor, IsRanged}
 use Rattle.repo_check.specs.Gathering.{facts_noted}
-use Rattle.repo_check.specs.Rounds.{AreNoted, GoesOn, IsNoteOf, IsWholeRound, Match, PagesRound, RoundView, TakesObject, TurnsOn}
+use Rattle.repo_check.specs.Rounds.{AreNoted, IsNoteOf, IsWholeRound, KnowsRound, Match, PagesRound, RoundView, TakesObject, TurnsWith}
 use Rattle.repo_check.specs.Surveys.{AtTrees, GoesToTrees, HasObjects, IsUnranged, KnowsNotes, RoundsView, Surveys, SurveysOn, next_of}
 use Rattle.repo_check.specs.Walks.{Awaits, IsTreeDue, IsSomething, IsTold, Knowledge, WalkReads, TakesNote, WalkView, WalksOn, AreKnownTrees}
 use Rattle.repo_check.specs.declared.knowing.TreeNote.{TreeNote}
 use Rattle.repo_check.specs.declared.rounds.Note.{Note}
-use Rattle.repo_check.specs.declared.rounds.Turn.{Turn}
-use Rattle.repo_check.specs.declared.surveys.Next.{Next}
 use Rattle.repo_check.specs.declared.visiting.Visit.{Visit}
 use Rattle.repo_check.proofs.Reading.{noted_walks, seen_more}
-use Rattle.repo_check.proofs.Rounding.{IsAside, IsNoGet, noted_grow, noted_page}
+use Rattle.repo_check.proofs.Rounding.{IsAside, IsNoGet, noted_grow, noted_page, steps_as, turns_as, turns_with}
 use Rattle.repo_check.proofs.Surveying.{getting_packs, listing_packs, ranging, unranged_on, whole_aside}
 
 -- ---- what was read of an index
@@ -71,7 +70,7 @@ may_range task token rounds known n fact es w notes joins due = ((token, w), (fa
 -- ---- what comes next
 
 module _ (task : Task) (token : Token) (rounds : RoundsView) (walk : WalkView) (e : Exchange) (es : Trace) (w : IsWorking task token (e ∷ es)) where
-  pub walk_goes : KnowsNotes rounds (e ∷ es) → (roots : List Root) (objects : HasObjects rounds walk roots (e ∷ es)) (answers : List Answer) → WalkReads walk answers (e ∷ es) → (fact : Option Fact) → WalksOn roots walk fact → (next : Next) → next ≡ next_of fact
+  pub walk_goes : KnowsNotes rounds (e ∷ es) → (roots : List Root) (objects : HasObjects rounds walk roots (e ∷ es)) (answers : List Answer) → WalkReads walk answers (e ∷ es) → (fact : Option Fact) → WalksOn roots walk fact → (next : Came (Unit {0})) → next ≡ next_of fact
       → SurveysOn task rounds walk next e es
   walk_goes notes roots objects answers reads (Some fact) on next is =
       subst (λ n. SurveysOn task rounds walk n e es) (sym is) (
@@ -91,16 +90,14 @@ module _ (task : Task) (token : Token) (rounds : RoundsView) (walk : WalkView) (
     faults = λ n x is. absurd (let faultless = faults n in cc (faultless, is));
   }
 
-  pub packs_go : (turn : Turn) (next : Next) → (GoesOn turn → KnowsNotes rounds (e ∷ es)) → IsUnranged (e ∷ es) → IsWholeRound Kind.Snapshot rounds.snapshots (e ∷ es) → IsWholeRound Kind.Index rounds.indexes (e ∷ es) → TurnsOn task Kind.Pack rounds.packs turn e es → GoesToTrees rounds walk turn next
+  pub packs_go : (turn next : Came (Unit {0})) → IsUnranged (e ∷ es) → IsWholeRound Kind.Snapshot rounds.snapshots (e ∷ es) → IsWholeRound Kind.Index rounds.indexes (e ∷ es) → TurnsWith task Kind.Pack rounds.packs (KnowsNotes rounds) turn e es → GoesToTrees rounds walk turn next
       → SurveysOn task rounds walk next e es
-  packs_go (Turn.Ask ask) next notes none ws wi on is =
-      subst (λ n. SurveysOn task rounds walk n e es) (sym is) ((notes tt, inr (inr (inl (record { snapshots = ws; indexes = wi; packs = on.0; no_trees = none })))), on.1)
-  packs_go Turn.All next notes none ws wi on b =
-      walk_goes (notes tt) b.roots (record { snapshots = ws; indexes = wi; packs = on; facts = b.facts; roots_are = b.roots_are }) []
+  packs_go (Came.All _) next none ws wi on b =
+      walk_goes on.1 b.roots (record { snapshots = ws; indexes = wi; packs = on.0; facts = b.facts; roots_are = b.roots_are }) []
       (record { seen = none_seen walk.known none b.fresh.1 b.fresh.2; reached = λ a c. absurd (none_contained a c) }) b.fact b.on next b.is
-  packs_go Turn.Senseless next notes none ws wi on is = subst (λ n. SurveysOn task rounds walk n e es) (sym is) on
-  packs_go Turn.Version next notes none ws wi on is = subst (λ n. SurveysOn task rounds walk n e es) (sym is) on
-  packs_go Turn.Away next notes none ws wi on is = subst (λ n. SurveysOn task rounds walk n e es) (sym is) on
+  packs_go (Came.Step step) next none ws wi on is =
+      subst (λ n. SurveysOn task rounds walk n e es) (sym is) (steps_as task e es (λ ask fs. KnowsRound Kind.Pack rounds.packs ask fs × KnowsNotes rounds fs) (Surveys rounds walk)
+      (λ ask both. (both.1, inr (inr (inl (record { snapshots = ws; indexes = wi; packs = both.0; no_trees = none }))))) step on)
 
 -- ---- a tree
 
@@ -127,7 +124,7 @@ ranged_now fact (Say.Names more names) a es h = absurd h
 ranged_now fact (Say.LockList rows) a es h = absurd h
 
 -- the tree that was asked for was noted, and the walk went on
-pub tree_noted : (task : Task) (token : Token) (rounds : RoundsView) (old new : WalkView) (note : TreeNote) (fact : Fact) (say : Say) (next : Option Fact) (then : Next) (es : Trace) → IsWorking task token (silent (range_of fact) say ∷ es)
+pub tree_noted : (task : Task) (token : Token) (rounds : RoundsView) (old new : WalkView) (note : TreeNote) (fact : Fact) (say : Say) (next : Option Fact) (then : Came (Unit {0})) (es : Trace) → IsWorking task token (silent (range_of fact) say ∷ es)
     → KnowsNotes rounds (silent (range_of fact) say ∷ es) → (at : AtTrees rounds old (range_of fact) es) → at.fact ≡ fact → HasObjects rounds old at.roots (silent (range_of fact) say ∷ es)
     → ((a : Answer) × IsTreeAnswer fact.name say a × IsTold old.known.facts fact.place a note.kept note.fault) → IsSomething note → TakesNote old fact.name note next new → then ≡ next_of next
     → SurveysOn task rounds new then (silent (range_of fact) say) es
@@ -169,7 +166,7 @@ notes_grow rounds e es other h = record {
 }
 
 -- a tree that was asked for came
-pub tree_taken : (rounds : RoundsView) (old new : WalkView) (note : TreeNote) (fact : Fact) (say : Say) (next : Option Fact) (then : Next) → ((roots : List Root) (f : Fact) → Awaits roots old f → Some fact ≡ Some f)
+pub tree_taken : (rounds : RoundsView) (old new : WalkView) (note : TreeNote) (fact : Fact) (say : Say) (next : Option Fact) (then : Came (Unit {0})) → ((roots : List Root) (f : Fact) → Awaits roots old f → Some fact ≡ Some f)
     → ((a : Answer) × IsTreeAnswer fact.name say a × IsTold old.known.facts fact.place a note.kept note.fault) → IsSomething note → TakesNote old fact.name note next new → then ≡ next_of next
     → (pack : Name) (offset len : ℕ) (task : Task) (token : Token) (es : Trace) → IsWorking task token (silent (Ask.Range pack offset len) say ∷ es) → Surveys rounds old (Ask.Range pack offset len) es
     → SurveysOn task rounds new then (silent (Ask.Range pack offset len) say) es
@@ -194,7 +191,7 @@ tree_taken rounds old new note fact say next then only told some takes goes pack
         tree_noted task token rounds old new note fact say next then es w (notes_grow rounds e es (λ k n is. absurd (cc is)) h.0) at (sym (same_Some fact at.fact (only at.roots at.fact at.awaits))) moved told some takes goes
 
 -- a page of packs came
-module _ (old new : RoundsView) (walk walk' : WalkView) (say : Say) (turn : Turn) (next : Next) (snapshots : new.snapshots ≡ old.snapshots) (indexes : new.indexes ≡ old.indexes) (goes : GoesToTrees new walk' turn next) where
+module _ (old new : RoundsView) (walk walk' : WalkView) (say : Say) (turn next : Came (Unit {0})) (snapshots : new.snapshots ≡ old.snapshots) (indexes : new.indexes ≡ old.indexes) (goes : GoesToTrees new walk' turn next) where
   wholes : (e : Exchange) (es : Trace) → IsAside Kind.Snapshot e.ask → IsAside Kind.Index e.ask → IsWholeRound Kind.Snapshot old.snapshots es → IsWholeRound Kind.Index old.indexes es
       → IsWholeRound Kind.Snapshot new.snapshots (e ∷ es) × IsWholeRound Kind.Index new.indexes (e ∷ es)
   wholes e es aside beside ws wi = (
@@ -217,7 +214,8 @@ module _ (old new : RoundsView) (walk walk' : WalkView) (say : Say) (turn : Turn
       let listing = at.packs.1 in
       let both = wholes e es refl refl at.snapshots at.indexes in
       let noted = noted_page Kind.Pack IsPackOf old.packs new.packs e es listing.none notes (λ n is. absurd (cc is)) h.0.packs in
-      packs_go task token new walk' e es w turn next (λ goes_on. others e es (λ n is. absurd (cc is)) (λ n is. absurd (cc is)) h.0 noted) (unranged_on e es (λ pack offset len is. absurd (cc is)) at.no_trees) both.0 both.1 (pages task token Kind.Pack after es w may listing) goes
+      let known = others e es (λ n is. absurd (cc is)) (λ n is. absurd (cc is)) h.0 noted in
+      packs_go task token new walk' e es w turn next (unranged_on e es (λ pack offset len is. absurd (cc is)) at.no_trees) both.0 both.1 (turns_with task Kind.Pack new.packs turn e es (KnowsNotes new) known (pages task token Kind.Pack after es w may listing)) goes
 
   pub packs_got : (n : Name) (takes : TakesObject Kind.Pack IsPackOf old.packs n say turn new.packs) → (task : Task) (token : Token) (es : Trace) → IsWorking task token (silent (Ask.Get Kind.Pack n) say ∷ es) → Surveys old walk (Ask.Get Kind.Pack n) es
       → SurveysOn task new walk' next (silent (Ask.Get Kind.Pack n) say) es
@@ -226,4 +224,5 @@ module _ (old new : RoundsView) (walk walk' : WalkView) (say : Say) (turn : Turn
       let at = getting_packs old walk es n h in
       let took = takes task token es w at.packs.1 h.0.packs in
       let both = wholes e es refl refl at.snapshots at.indexes in
-      packs_go task token new walk' e es w turn next (λ goes_on. others e es (λ m is. absurd (cc is)) (λ m is. absurd (cc is)) h.0 (took.1 goes_on)) (unranged_on e es (λ pack offset len is. absurd (cc is)) at.no_trees) both.0 both.1 took.0 goes
+      let known = others e es (λ m is. absurd (cc is)) (λ m is. absurd (cc is)) h.0 in
+      packs_go task token new walk' e es w turn next (unranged_on e es (λ pack offset len is. absurd (cc is)) at.no_trees) both.0 both.1 (turns_as task Kind.Pack new.packs turn e es (AreNoted Kind.Pack IsPackOf new.packs.names new.packs.notes) (KnowsNotes new) known took) goes

@@ -1,5 +1,5 @@
 -- What a round over the objects of one kind knows of the trace.
-use Rattle.std.specs.Prelude.{◌≡◌, ◌≤◌, ◌++◌, ◌∷◌, [], ⊤, ℕ, true, false, List, length, map, take, slice_get, Option, Some, Contains}
+use Rattle.std.specs.Prelude.{◌≡◌, ◌≤◌, ◌⊎◌, ◌++◌, ◌∷◌, [], ⊤, ℕ, true, false, List, length, map, take, slice_get, Option, Some, Contains}
 use Rattle.repo_name.specs.declared.kinds.Kind.{Kind}
 use Rattle.repo_name.specs.declared.names.Name.{Name}
 use Rattle.repo_name.specs.declared.tokens.Token.{Token}
@@ -7,10 +7,14 @@ use Rattle.repo_wire.specs.declared.messages.Ask.{Ask}
 use Rattle.repo_wire.specs.declared.messages.Say.{Say}
 use Rattle.repo_store.specs.Pages.{Above, Has}
 use Rattle.repo_session.specs.Versions.{upto}
-use Rattle.repo_session.specs.Ends.{EndsAtOnce, IsOfOtherVersion, IsSenseless}
-use Rattle.repo_session.specs.Jobs.{IsShort}
+use Rattle.repo_session.specs.Ends.{IsEndBy, MayFollow}
+use Rattle.repo_session.specs.Jobs.{HeedsOn}
 use Rattle.repo_session.specs.Order.{Task, IsWorking, May}
 use Rattle.repo_session.specs.Rolls.{IsPaged, IsRolled}
+use Rattle.repo_session.specs.declared.jobs.Step.{Step}
+use Rattle.repo_session.specs.declared.outcomes.End.{End}
+use Rattle.repo_session.specs.declared.outcomes.Outcome.{Outcome}
+use Rattle.repo_session.specs.declared.parts.Came.{Came}
 use Rattle.repo_session.specs.declared.versions.Versions.{Versions}
 use Rattle.repo_session.specs.Traces.{Each, Exchange, Exchanged, Trace, WasAsked, silent}
 use Rattle.repo_reach.specs.declared.roots.Root.{Root}
@@ -19,7 +23,6 @@ use Rattle.repo_check.specs.Arrivals.{IsFaulty, IsRootOf, TellsNothing}
 use Rattle.repo_check.specs.Checking.{CameFor}
 use Rattle.repo_check.specs.declared.rounds.Note.{Note}
 use Rattle.repo_check.specs.declared.rounds.Round.{Round}
-use Rattle.repo_check.specs.declared.rounds.Turn.{Turn}
 
 -- the kind of a round, the names that were listed, how many of their objects the list counts as read, and what was noted of the first of them
 pub record RoundView (T : Type 0) : Type 0 where
@@ -31,6 +34,29 @@ pub record RoundView (T : Type 0) : Type 0 where
 -- the code's own
 abbrev pub round_of : {T : Type 0} → Round T → RoundView T
 round_of round = record { kind = round.roll.kind; names = round.roll.names.items; read = round.roll.read; notes = round.notes.items }
+
+-- ---- what comes of a reply
+
+-- the outcome is an end of a check that this exchange caused: by a page that makes no sense, or by what is of a version that isn't known, and by nothing else
+abbrev pub EndsCheck : ℕ → Exchange → Outcome → Type 0
+EndsCheck known e outcome = IsEndBy known e outcome × ((outcome ≡ Outcome.Ended End.BadReply) ⊎ (outcome ≡ Outcome.Ended End.Version))
+
+-- what a check does on an exchange by a part that knows this: it asks for more, which the order allows; it ends by that; or it passes on a reply that tells nothing
+abbrev pub StepsOn : Task → (Ask → Trace → Type 0) → Exchange → Trace → Step → Type 0
+StepsOn task Knows e es (Step.Ask ask) = Knows ask (e ∷ es) × May task (e ∷ es) ask
+StepsOn task Knows e es (Step.Finish outcome) = EndsCheck (upto task.versions) e outcome
+StepsOn task Knows e es Step.Want = ⊥
+StepsOn task Knows e es Step.Away = TellsNothing e.ask e.say
+
+-- what comes of it: all came, and this holds; or such a step
+abbrev pub ComesOn : Task → (Ask → Trace → Type 0) → (Trace → Type 0) → Came (Unit {0}) → Exchange → Trace → Type 0
+ComesOn task Knows Holds (Came.All _) e es = Holds (e ∷ es)
+ComesOn task Knows Holds (Came.Step step) e es = StepsOn task Knows e es step
+
+-- where a check ends at once on the reply, the step ends it by that; where all came, none does
+abbrev pub HeedsCame : ℕ → Ask → Say → Came (Unit {0}) → Type 0
+HeedsCame known ask say (Came.All _) = MayFollow known true (silent ask say)
+HeedsCame known ask say (Came.Step step) = HeedsOn known true (silent ask say) step
 
 -- ---- names
 
@@ -73,10 +99,9 @@ pub record IsFreshRound {T : Type 0} (k : Kind) (round : RoundView T) : Type 0 w
 -- ---- turns
 
 -- the next object is asked for, or all were noted
-abbrev pub AsksNext : {T : Type 0} → RoundView T → Turn → Type 0
-AsksNext round (Turn.Ask ask) = (n : Name) × (ask ≡ Ask.Get round.kind n) × (slice_get round.names (length round.notes) ≡ Some n)
-AsksNext round Turn.All = length round.names ≤ length round.notes
-AsksNext round _ = ⊥
+abbrev pub AsksNext : {T : Type 0} → RoundView T → Came (Unit {0}) → Type 0
+AsksNext round (Came.All _) = length round.names ≤ length round.notes
+AsksNext round (Came.Step step) = (n : Name) × (step ≡ Step.Ask (Ask.Get round.kind n)) × (slice_get round.names (length round.notes) ≡ Some n)
 
 -- what is known where this is pending
 abbrev pub KnowsRound : {T : Type 0} → Kind → RoundView T → Ask → Trace → Type 0
@@ -85,39 +110,17 @@ KnowsRound k round (Ask.Get j n) es = (j ≡ k) × IsGetting k round n es
 KnowsRound k round _ es = ⊥
 
 -- what comes next after an exchange
-abbrev pub TurnsOn : {T : Type 0} → Task → Kind → RoundView T → Turn → Exchange → Trace → Type 0
-TurnsOn task k round (Turn.Ask ask) e es = KnowsRound k round ask (e ∷ es) × May task (e ∷ es) ask
-TurnsOn task k round Turn.All e es = IsWholeRound k round (e ∷ es)
-TurnsOn task k round Turn.Senseless e es = IsSenseless (upto task.versions) e.ask e.say
-TurnsOn task k round Turn.Version e es = IsOfOtherVersion (upto task.versions) e.ask e.say
-TurnsOn task k round Turn.Away e es = TellsNothing e.ask e.say
+abbrev pub TurnsOn : {T : Type 0} → Task → Kind → RoundView T → Came (Unit {0}) → Exchange → Trace → Type 0
+TurnsOn task k round turn e es = ComesOn task (KnowsRound k round) (IsWholeRound k round) turn e es
 
--- the turn ends the round by this reply: by what is of a version that isn't known, by a page that makes no sense, or by passing it on
-abbrev pub IsEndTurn : ℕ → Ask → Say → Turn → Type 0
-IsEndTurn known ask say Turn.Senseless = IsSenseless known ask say
-IsEndTurn known ask say Turn.Version = IsOfOtherVersion known ask say
-IsEndTurn known ask say Turn.Away = ⊤
-IsEndTurn known ask say _ = ⊥
-
--- where a check ends at once on the reply, the turn ends the round by that
-abbrev pub HeedsTurn : ℕ → Ask → Say → Turn → Type 0
-HeedsTurn known ask say turn = EndsAtOnce known true (silent ask say) → IsEndTurn known ask say turn
-
--- the round goes on, or is over
-abbrev pub GoesOn : Turn → Type 0
-GoesOn (Turn.Ask ask) = ⊤
-GoesOn Turn.All = ⊤
-GoesOn _ = ⊥
+-- where the round goes on, or is over, this holds besides
+abbrev pub TurnsWith : {T : Type 0} → Task → Kind → RoundView T → (Trace → Type 0) → Came (Unit {0}) → Exchange → Trace → Type 0
+TurnsWith task k round Holds turn e es = ComesOn task (λ ask fs. KnowsRound k round ask fs × Holds fs) (λ fs. IsWholeRound k round fs × Holds fs) turn e es
 
 -- what a page comes to, after each trace at whose end it was asked for
-abbrev pub PagesRound : {T : Type 0} → RoundView T → Say → Turn → RoundView T → Type 0
+abbrev pub PagesRound : {T : Type 0} → RoundView T → Say → Came (Unit {0}) → RoundView T → Type 0
 PagesRound old say turn new = (task : Task) (token : Token) (k : Kind) (after : Option Name) (es : Trace) → IsWorking task token (silent (Ask.List k after) say ∷ es) → May task es (Ask.List k after) → RoundIsListing k old es
     → TurnsOn task k new turn (silent (Ask.List k after) say) es
-
--- what is asked next fits a frame
-abbrev pub IsShortTurn : Turn → Type 0
-IsShortTurn (Turn.Ask ask) = IsShort ask
-IsShortTurn _ = ⊤
 
 -- ---- notes
 
@@ -141,14 +144,14 @@ pub record AreNoted {T : Type 0} (k : Kind) (Gives : Answer → T → Type 0) (n
   pub noted : Match (IsNoteOf k Gives) answers notes
 
 -- what a reply to the request for the next object comes to, after each trace at whose end it was pending
-abbrev pub TakesObject : {T : Type 0} → Kind → (Answer → T → Type 0) → RoundView T → Name → Say → Turn → RoundView T → Type 0
+abbrev pub TakesObject : {T : Type 0} → Kind → (Answer → T → Type 0) → RoundView T → Name → Say → Came (Unit {0}) → RoundView T → Type 0
 TakesObject k Gives old n say turn new = (task : Task) (token : Token) (es : Trace) → IsWorking task token (silent (Ask.Get k n) say ∷ es) → IsGetting k old n es → AreNoted k Gives old.names old.notes es
-    → TurnsOn task k new turn (silent (Ask.Get k n) say) es × (GoesOn turn → AreNoted k Gives new.names new.notes (silent (Ask.Get k n) say ∷ es))
+    → TurnsWith task k new (AreNoted k Gives new.names new.notes) turn (silent (Ask.Get k n) say) es
 
 -- so what one to the request for the next snapshot does, after those of who knows these versions
-abbrev pub TakesSnapshot : Versions → RoundView Root → Name → Say → Turn → RoundView Root → Type 0
+abbrev pub TakesSnapshot : Versions → RoundView Root → Name → Say → Came (Unit {0}) → RoundView Root → Type 0
 TakesSnapshot versions old n say turn new = (task : Task) (token : Token) (es : Trace) → task.versions ≡ versions → IsWorking task token (silent (Ask.Get Kind.Snapshot n) say ∷ es) → IsGetting Kind.Snapshot old n es → AreNoted Kind.Snapshot IsRootOf old.names old.notes es
-    → TurnsOn task Kind.Snapshot new turn (silent (Ask.Get Kind.Snapshot n) say) es × (GoesOn turn → AreNoted Kind.Snapshot IsRootOf new.names new.notes (silent (Ask.Get Kind.Snapshot n) say ∷ es))
+    → TurnsWith task Kind.Snapshot new (AreNoted Kind.Snapshot IsRootOf new.names new.notes) turn (silent (Ask.Get Kind.Snapshot n) say) es
 
 -- there is one note more
 pub record HasOneMore {T : Type 0} (old new : RoundView T) : Type 0 where

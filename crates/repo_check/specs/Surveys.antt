@@ -11,28 +11,26 @@ use Rattle.repo_index.specs.Lookups.{Joins}
 use Rattle.repo_index.specs.declared.facts.Fact.{Fact}
 use Rattle.repo_index.specs.declared.facts.PackFacts.{PackFacts}
 use Rattle.repo_session.specs.Versions.{upto}
+use Rattle.repo_session.specs.declared.jobs.Step.{Step}
+use Rattle.repo_session.specs.declared.parts.Came.{Came}
 use Rattle.repo_session.specs.declared.versions.Versions.{Versions}
 use Rattle.repo_session.specs.declared.outcomes.CheckFault.{CheckFault}
 use Rattle.repo_session.specs.declared.outcomes.FaultKind.{FaultKind}
 use Rattle.repo_session.specs.Blobs.{range_of}
-use Rattle.repo_session.specs.Ends.{EndsAtOnce, IsOfOtherVersion, IsSenseless}
-use Rattle.repo_session.specs.Jobs.{IsShort}
 use Rattle.repo_session.specs.Order.{Task, IsWorking, May, last_of, opened}
 use Rattle.repo_session.specs.Traces.{Exchange, Exchanged, Trace, silent}
 use Rattle.repo_reach.specs.declared.roots.Root.{Root}
 use Rattle.repo_tree.specs.Spelling.{greatest_depth}
 use Rattle.repo_check.specs.Answers.{Answer, Gathered, IsDeepest, IsFollowed, IsReachedBlob}
-use Rattle.repo_check.specs.Arrivals.{IsIndexOf, IsPackOf, IsRootOf, TellsNothing}
+use Rattle.repo_check.specs.Arrivals.{IsIndexOf, IsPackOf, IsRootOf}
 use Rattle.repo_check.specs.Checking.{AreAnswers, IsFaultOf}
 use Rattle.repo_check.specs.Findings.{BlobIs}
 use Rattle.repo_check.specs.Gathering.{facts_noted, fault_noted, root_noted}
-use Rattle.repo_check.specs.Rounds.{AreNoted, HasOneMore, IsFreshRound, IsUntouched, IsWholeRound, KnowsRound, RoundView, round_of}
+use Rattle.repo_check.specs.Rounds.{AreNoted, ComesOn, HasOneMore, IsFreshRound, IsUntouched, IsWholeRound, KnowsRound, RoundView, round_of}
 use Rattle.repo_check.specs.Telling.{told}
 use Rattle.repo_check.specs.Visiting.{IsGiven}
 use Rattle.repo_check.specs.Walks.{ContentFault, Awaits, TreeIsNoted, IsFreshKnown, IsOver, IsWalkMark, WalkReads, WalkView, Walks, WalksOn, tree_fault, walk_of}
 use Rattle.repo_check.specs.declared.knowing.TreeNote.{TreeNote}
-use Rattle.repo_check.specs.declared.rounds.Turn.{Turn}
-use Rattle.repo_check.specs.declared.surveys.Next.{Next}
 use Rattle.repo_check.specs.declared.surveys.Survey.{Survey}
 use Rattle.repo_check.specs.declared.surveys.SurveyMark.{SurveyMark}
 use Rattle.repo_check.specs.declared.visiting.Gift.{Gift}
@@ -120,46 +118,27 @@ pub record IsSurveyed (rounds : RoundsView) (walk : WalkView) (es : Trace) : Typ
 -- ---- steps
 
 -- what comes next after an exchange
-abbrev pub SurveysOn : Task → RoundsView → WalkView → Next → Exchange → Trace → Type 0
-SurveysOn task rounds walk (Next.Ask ask) e es = Surveys rounds walk ask (e ∷ es) × May task (e ∷ es) ask
-SurveysOn task rounds walk Next.Over e es = IsSurveyed rounds walk (e ∷ es)
-SurveysOn task rounds walk Next.Senseless e es = IsSenseless (upto task.versions) e.ask e.say
-SurveysOn task rounds walk Next.Version e es = IsOfOtherVersion (upto task.versions) e.ask e.say
-SurveysOn task rounds walk Next.Away e es = TellsNothing e.ask e.say
+abbrev pub SurveysOn : Task → RoundsView → WalkView → Came (Unit {0}) → Exchange → Trace → Type 0
+SurveysOn task rounds walk next e es = ComesOn task (Surveys rounds walk) (IsSurveyed rounds walk) next e es
 
--- what is asked next fits a frame
-abbrev pub IsShortNext : Next → Type 0
-IsShortNext (Next.Ask ask) = IsShort ask
-IsShortNext _ = ⊤
-
--- what comes next is what a turn is; after the last one of a kind it is this
-abbrev pub GoesAfter : Turn → Next → Next → Type 0
-GoesAfter (Turn.Ask ask) last next = next ≡ Next.Ask ask
-GoesAfter Turn.All last next = next ≡ last
-GoesAfter Turn.Senseless last next = next ≡ Next.Senseless
-GoesAfter Turn.Version last next = next ≡ Next.Version
-GoesAfter Turn.Away last next = next ≡ Next.Away
+-- what comes next is the step of a turn; after the last turn of a kind it is this
+abbrev pub GoesAfter : Came (Unit {0}) → Came (Unit {0}) → Came (Unit {0}) → Type 0
+GoesAfter (Came.All _) last next = next ≡ last
+GoesAfter (Came.Step step) last next = next ≡ Came.Step step
 
 -- the first page of a kind is asked for
-abbrev pub first_page : {T : Type 0} → RoundView T → Next
-first_page round = Next.Ask (Ask.List round.kind (last_of round.names))
+abbrev pub first_page : {T : Type 0} → RoundView T → Came (Unit {0})
+first_page round = Came.Step (Step.Ask (Ask.List round.kind (last_of round.names)))
 
 -- what a reply comes to, after each trace at whose end its request was pending
-abbrev pub TakesSurvey : RoundsView → WalkView → Ask → Say → Next → RoundsView → WalkView → Type 0
+abbrev pub TakesSurvey : RoundsView → WalkView → Ask → Say → Came (Unit {0}) → RoundsView → WalkView → Type 0
 TakesSurvey rounds walk ask say next rounds' walk' = (task : Task) (token : Token) (es : Trace) → IsWorking task token (silent ask say ∷ es) → May task es ask → Surveys rounds walk ask es
     → SurveysOn task rounds' walk' next (silent ask say) es
 
 -- of who knows these versions
-abbrev pub TakesSurveyBy : Versions → RoundsView → WalkView → Ask → Say → Next → RoundsView → WalkView → Type 0
+abbrev pub TakesSurveyBy : Versions → RoundsView → WalkView → Ask → Say → Came (Unit {0}) → RoundsView → WalkView → Type 0
 TakesSurveyBy versions rounds walk ask say next rounds' walk' = (task : Task) (token : Token) (es : Trace) → task.versions ≡ versions → IsWorking task token (silent ask say ∷ es) → May task es ask → Surveys rounds walk ask es
     → SurveysOn task rounds' walk' next (silent ask say) es
-
--- what comes next ends the survey by this reply: by what is of a version that isn't known, by a page that makes no sense, or by passing it on
-abbrev pub IsEndNext : ℕ → Ask → Say → Next → Type 0
-IsEndNext known ask say Next.Senseless = IsSenseless known ask say
-IsEndNext known ask say Next.Version = IsOfOtherVersion known ask say
-IsEndNext known ask say Next.Away = ⊤
-IsEndNext known ask say _ = ⊥
 
 -- the last name of a kind so far
 abbrev pub last_in : RoundsView → Kind → Option Name
@@ -172,10 +151,6 @@ abbrev pub IsPageBehind : RoundsView → Ask → Type 0
 IsPageBehind rounds (Ask.List k after) = after ≡ last_in rounds k
 IsPageBehind rounds _ = ⊤
 
--- where a check ends at once on the reply, what comes next ends the survey by that
-abbrev pub HeedsNext : ℕ → Ask → Say → Next → Type 0
-HeedsNext known ask say next = EndsAtOnce known true (silent ask say) → IsEndNext known ask say next
-
 -- ---- the walk
 
 -- a walk goes by the facts of the indexes that read, and begins at the roots of the snapshots that read; nothing is known of trees
@@ -187,12 +162,12 @@ pub record WalkHasBegun (rounds : RoundsView) (walk : WalkView) : Type 0 where
   pub walks : Walks roots walk
 
 -- the next tree is asked for, or all was received
-abbrev pub next_of : Option Fact → Next
-next_of (Some fact) = Next.Ask (range_of fact)
-next_of None = Next.Over
+abbrev pub next_of : Option Fact → Came (Unit {0})
+next_of (Some fact) = Came.Step (Step.Ask (range_of fact))
+next_of None = Came.All tt
 
 -- it went on to the first tree that is to be asked for
-pub record WalkBegins (rounds : RoundsView) (walk : WalkView) (next : Next) : Type 0 where
+pub record WalkBegins (rounds : RoundsView) (walk : WalkView) (next : Came (Unit {0})) : Type 0 where
   pub roots : List Root
   pub roots_are : roots ≡ flat_map root_noted rounds.snapshots.notes
   pub facts : Joins [] (flat_map facts_noted rounds.indexes.notes) walk.known.facts
@@ -201,13 +176,10 @@ pub record WalkBegins (rounds : RoundsView) (walk : WalkView) (next : Next) : Ty
   pub on : WalksOn roots walk fact
   pub is : next ≡ next_of fact
 
--- what comes next is what a turn of the packs is; after the last one the walk begins
-abbrev pub GoesToTrees : RoundsView → WalkView → Turn → Next → Type 0
-GoesToTrees rounds walk (Turn.Ask ask) next = next ≡ Next.Ask ask
-GoesToTrees rounds walk Turn.All next = WalkBegins rounds walk next
-GoesToTrees rounds walk Turn.Senseless next = next ≡ Next.Senseless
-GoesToTrees rounds walk Turn.Version next = next ≡ Next.Version
-GoesToTrees rounds walk Turn.Away next = next ≡ Next.Away
+-- what comes next is the step of a turn of the packs; after the last one the walk begins
+abbrev pub GoesToTrees : RoundsView → WalkView → Came (Unit {0}) → Came (Unit {0}) → Type 0
+GoesToTrees rounds walk (Came.All _) next = WalkBegins rounds walk next
+GoesToTrees rounds walk (Came.Step step) next = next ≡ Came.Step step
 
 -- ---- taking back
 
@@ -227,10 +199,10 @@ HasTaken rounds walk _ rounds' walk' = ⊥
 abbrev pub SurveyKnows : Survey → Ask → Trace → Type 0
 SurveyKnows s ask es = Surveys (rounds_of s) (walk_of s.walk) ask es
 
-abbrev pub SurveyTakes : Survey → Ask → Say → Next → Survey → Type 0
+abbrev pub SurveyTakes : Survey → Ask → Say → Came (Unit {0}) → Survey → Type 0
 SurveyTakes old ask say next new = TakesSurvey (rounds_of old) (walk_of old.walk) ask say next (rounds_of new) (walk_of new.walk)
 
-abbrev pub SurveyTakesBy : Versions → Survey → Ask → Say → Next → Survey → Type 0
+abbrev pub SurveyTakesBy : Versions → Survey → Ask → Say → Came (Unit {0}) → Survey → Type 0
 SurveyTakesBy versions old ask say next new = TakesSurveyBy versions (rounds_of old) (walk_of old.walk) ask say next (rounds_of new) (walk_of new.walk)
 
 abbrev pub SurveyHasTaken : Survey → Ask → Survey → Type 0

@@ -2,14 +2,12 @@
 
 ghost use Rattle.std.specs.Prelude.{◌≡◌, [], IfOk, OnErr};
 ghost use Rattle.repo_session.specs.Jobs.{IsShortStep};
-ghost use Rattle.repo_session.specs.Traces.{Trace};
 ghost use Rattle.repo_session.specs.Sessions.{who_in};
 ghost use Rattle.repo_check.specs.CheckStates.{Concluded, FitsCheck, IsFreshCheck, KnowsCheck, TakesBack};
-ghost use Rattle.repo_check.specs.Surveys.{IsShortNext};
 
-use crate::surveys::{Next, Survey, SurveyMark};
+use crate::surveys::{Survey, SurveyMark};
 use crate::verdicts::outcome_of;
-use repo_session::{Emission, End, Holder, Job, Outcome, Session, Step, Versions, Who};
+use repo_session::{Came, Emission, Holder, Job, Session, Step, Versions, Who};
 use repo_tree::Config;
 use repo_wire::{Ask, Say};
 use std::alloc::{AllocError, Global};
@@ -97,11 +95,8 @@ impl Job for Check {
     fn reply(&mut self, holder: &Holder, ask: &Ask, say: &Say) -> Result<Step, AllocError> {
         let mark = self.survey.mark();
         match self.survey.take(holder.versions(), ask, say)? {
-            Next::Ask(next) => Ok(Step::Ask(next)),
-            Next::Over => self.conclude(ask, mark),
-            Next::Senseless => Ok(Step::Finish(Outcome::Ended(End::BadReply))),
-            Next::Version => Ok(Step::Finish(Outcome::Ended(End::Version))),
-            Next::Away => Ok(Step::Away),
+            Came::All(()) => self.conclude(ask, mark),
+            Came::Step(step) => Ok(step),
         }
     }
 

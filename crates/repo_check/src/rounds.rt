@@ -4,14 +4,15 @@ ghost use Rattle.std.specs.Prelude.{◌≡◌, ◌≤◌, ◌++◌, ◌∷◌, [
 ghost use Rattle.repo_name.specs.declared.kinds.Kind.{Kind};
 ghost use Rattle.repo_name.specs.declared.names.Name.{Name};
 ghost use Rattle.repo_wire.specs.declared.messages.Ask.{Ask};
+ghost use Rattle.repo_session.specs.declared.parts.Came.{Came};
 ghost use Rattle.repo_session.specs.Order.{last_of};
-ghost use Rattle.repo_check.specs.Rounds.{IsFreshRound, PagesRound, HeedsTurn, IsShortTurn, AsksNext, round_of};
+ghost use Rattle.repo_session.specs.Readings.{IsShortCame};
+ghost use Rattle.repo_check.specs.Rounds.{IsFreshRound, PagesRound, HeedsCame, AsksNext, round_of};
 ghost use Rattle.repo_check.specs.declared.rounds.Note.{Note};
-ghost use Rattle.repo_check.specs.declared.rounds.Turn.{Turn};
 
 use repo_name::{Kind, Name};
-use repo_session::{FaultKind, Paging, Roll, get_ask};
-use repo_wire::{Ask, Say};
+use repo_session::{Came, FaultKind, Roll, Step, get_ask};
+use repo_wire::Say;
 use std::alloc::{AllocError, Global};
 
 /// What was noted of an object that was asked for.
@@ -21,21 +22,6 @@ pub enum Note<T> {
     Well(T),
     /// It is at fault.
     Fault(FaultKind),
-}
-
-/// What comes next of a round.
-#[derive(Drop)]
-pub enum Turn {
-    /// This is asked for.
-    Ask(Ask),
-    /// All objects of the kind were noted.
-    All,
-    /// A page doesn't rise.
-    Senseless,
-    /// The object is of a version that isn't known.
-    Version,
-    /// The reply is a refusal, or of another sort than the request wants.
-    Away,
 }
 
 /// The objects of one kind: their names as pages gave them, and what was noted of the first of them.
@@ -65,13 +51,13 @@ impl<T: Drop> Round<T> {
     }
 
     /// The request for the next object; or all were noted. It takes no memory.
-    pub fn next(&self) -> Turn
+    pub fn next(&self) -> Came<()>
         ensures next { AsksNext (round_of self.now) result }
-        ensures short { IsShortTurn result }
+        ensures short { IsShortCame result }
     {
         match self.next_name() {
-            Some(name) => Turn::Ask(get_ask(self.roll.kind, name)),
-            None => Turn::All,
+            Some(name) => Came::Step(Step::Ask(get_ask(self.roll.kind, name))),
+            None => Came::All(()),
         }
     }
 
@@ -85,10 +71,10 @@ impl<T: Drop> Round<T> {
     }
 
     /// Notes something of the object that was asked for, and goes on. It fails for memory alone, and then nothing changed.
-    pub fn go_on(&mut self, note: Note<T>) -> Result<Turn, AllocError>
+    pub fn go_on(&mut self, note: Note<T>) -> Result<Came<()>, AllocError>
         ensures notes { OnOk result (self.new.notes.items ≡ self.old.notes.items ++ note ∷ []) }
         ensures next { IfOk result (AsksNext (round_of self.new)) }
-        ensures short { IfOk result IsShortTurn }
+        ensures short { IfOk result IsShortCame }
         ensures err { OnErr result (self.new.notes.items ≡ self.old.notes.items) }
         ensures roll { self.new.roll ≡ self.old.roll }
     {
@@ -104,20 +90,19 @@ impl<T: Drop> Round<T> {
         self.notes.pop();
     }
 
-    /// Takes the reply to the request for a page. It fails for memory alone, and then nothing changed.
-    pub fn take_page(&mut self, say: &Say) -> Result<Turn, AllocError>
+    /// Takes the reply to the request for a page: one that doesn't rise ends the check. It fails for memory alone, and then
+    /// nothing changed.
+    pub fn take_page(&mut self, say: &Say) -> Result<Came<()>, AllocError>
         ensures pages { IfOk result (λ turn. PagesRound (round_of self.old) say.now turn (round_of self.new)) }
-        ensures heeds { IfOk result (λ turn. (known : ℕ) (kind : Kind) (after : Option Name) → after ≡ last_of self.old.roll.names.items → HeedsTurn known (Ask.List kind after) say.now turn) }
-        ensures short { IfOk result IsShortTurn }
+        ensures heeds { IfOk result (λ turn. (known : ℕ) (kind : Kind) (after : Option Name) → after ≡ last_of self.old.roll.names.items → HeedsCame known (Ask.List kind after) say.now turn) }
+        ensures short { IfOk result IsShortCame }
         ensures same { OnErr result (round_of self.new ≡ round_of self.old) }
         ensures notes { self.new.notes ≡ self.old.notes }
-        ensures all { IfOk result (λ turn. turn ≡ Turn.All → self.old.notes.items ≡ [] → round_of self.new ≡ round_of self.old) }
+        ensures all { IfOk result (λ turn. turn ≡ Came.All tt → self.old.notes.items ≡ [] → round_of self.new ≡ round_of self.old) }
     {
         match self.roll.add_page(say)? {
-            Paging::Ask(ask) => Ok(Turn::Ask(ask)),
-            Paging::Last => Ok(self.next()),
-            Paging::Senseless => Ok(Turn::Senseless),
-            Paging::Unwelcome => Ok(Turn::Away),
+            Came::All(()) => Ok(self.next()),
+            Came::Step(step) => Ok(Came::Step(step)),
         }
     }
 }

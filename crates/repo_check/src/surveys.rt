@@ -6,31 +6,15 @@ ghost use Rattle.repo_name.specs.declared.names.Name.{Name};
 ghost use Rattle.repo_wire.specs.declared.messages.Ask.{Ask};
 ghost use Rattle.repo_session.specs.Jobs.{IsShort};
 ghost use Rattle.repo_check.specs.Walks.{walk_of};
-ghost use Rattle.repo_check.specs.declared.surveys.Next.{Next};
 ghost use Rattle.repo_check.specs.Surveys.{IsSurveyMark, IsFreshSurvey, rounds_of, OpensWith, TakesTreeBack, SurveyTakesBack};
 
 use crate::rounds::Round;
 use crate::walks::{Walk, WalkMark};
-use repo_index::{Fact, Facts, IndexText};
+use repo_index::{Facts, IndexText};
 use repo_name::{Kind, Name};
 use repo_reach::Root;
 use repo_wire::Ask;
 use std::alloc::Global;
-
-/// What comes next of a survey.
-#[derive(Drop)]
-pub enum Next {
-    /// This is asked for.
-    Ask(Ask),
-    /// All was received.
-    Over,
-    /// A page doesn't rise.
-    Senseless,
-    /// A snapshot is of a version that isn't known.
-    Version,
-    /// The reply is a refusal that tells nothing, or of another sort than the request wants.
-    Away,
-}
 
 /// What was received of a store so far: the objects of each kind, and the trees.
 #[derive(Drop)]

@@ -5,62 +5,60 @@ ghost use Rattle.repo_name.specs.declared.kinds.Kind.{Kind};
 ghost use Rattle.repo_name.specs.declared.names.Name.{Name};
 ghost use Rattle.repo_wire.specs.declared.messages.Ask.{Ask};
 ghost use Rattle.repo_wire.specs.declared.messages.Say.{Say};
+ghost use Rattle.repo_session.specs.declared.jobs.Step.{Step};
+ghost use Rattle.repo_session.specs.declared.parts.Came.{Came};
 ghost use Rattle.repo_session.specs.Order.{last_of};
+ghost use Rattle.repo_session.specs.Readings.{IsShortCame};
 ghost use Rattle.repo_session.specs.Traces.{Trace};
 ghost use Rattle.repo_session.specs.Versions.{upto};
-ghost use Rattle.repo_check.specs.Rounds.{IsShortTurn};
+ghost use Rattle.repo_check.specs.Rounds.{HeedsCame};
 ghost use Rattle.repo_index.specs.declared.facts.Fact.{Fact};
 ghost use Rattle.repo_check.specs.Walks.{walk_of};
-ghost use Rattle.repo_check.specs.declared.rounds.Turn.{Turn};
-ghost use Rattle.repo_check.specs.declared.surveys.Next.{Next};
-ghost use Rattle.repo_check.specs.Surveys.{WalkBegins, GoesAfter, GoesToTrees, WalkHasBegun, HeedsNext, IsPageBehind, IsShortNext, SurveyHasTaken, SurveyKnows, SurveyTakes, SurveyTakesBy, last_in, next_of, rounds_of, StaysAtPage, StaysAtTree};
+ghost use Rattle.repo_check.specs.Surveys.{WalkBegins, GoesAfter, GoesToTrees, WalkHasBegun, IsPageBehind, SurveyHasTaken, SurveyKnows, SurveyTakes, SurveyTakesBy, last_in, next_of, rounds_of, StaysAtPage, StaysAtTree};
 
 use crate::gathering::{lookup_of, visits_of};
 use crate::knowing::note_of;
-use crate::rounds::Turn;
-use crate::surveys::{Next, Survey};
+use crate::surveys::Survey;
 use crate::visits::{take_index, take_pack, take_snapshot};
 use crate::walks::Walk;
 use repo_index::Fact;
 use repo_name::{Kind, Name};
-use repo_session::{Roll, Versions, range_ask};
+use repo_session::{Came, Roll, Step, Versions, range_ask};
 use repo_wire::{Ask, Say};
 use std::alloc::AllocError;
 
 /// The request for the next tree; or all was received.
-fn next_of(fact: Option<Fact>) -> Next
+fn next_of(fact: Option<Fact>) -> Came<()>
     ensures next { result ≡ next_of fact }
-    ensures short { IsShortNext result }
+    ensures short { IsShortCame result }
 {
     match fact {
-        Some(fact) => Next::Ask(range_ask(fact)),
-        None => Next::Over,
+        Some(fact) => Came::Step(Step::Ask(range_ask(fact))),
+        None => Came::All(()),
     }
 }
 
-/// What comes after a turn, where the names of this roll are listed next. It takes no memory.
-fn after_turn(turn: Turn, next: &Roll) -> Next
-    requires { IsShortTurn turn }
-    ensures after { GoesAfter turn (Next.Ask (Ask.List next.now.kind (last_of next.now.names.items))) result }
-    ensures more { result ≢ Next.Over }
-    ensures short { IsShortNext result }
+/// What comes after a turn of a round: its step; or, where all were noted, the names of this roll are listed next. It takes
+/// no memory.
+fn after_turn(turn: Came<()>, next: &Roll) -> Came<()>
+    requires { IsShortCame turn }
+    ensures after { GoesAfter turn (Came.Step (Step.Ask (Ask.List next.now.kind (last_of next.now.names.items)))) result }
+    ensures more { result ≢ Came.All tt }
+    ensures short { IsShortCame result }
 {
     match turn {
-        Turn::Ask(ask) => Next::Ask(ask),
-        Turn::All => Next::Ask(next.page_ask()),
-        Turn::Senseless => Next::Senseless,
-        Turn::Version => Next::Version,
-        Turn::Away => Next::Away,
+        Came::All(()) => Came::Step(Step::Ask(next.page_ask())),
+        Came::Step(step) => Came::Step(step),
     }
 }
 
 impl Survey {
     /// Takes the reply to the request for a page of snapshots. It fails for memory alone, and then nothing changed.
-    fn take_snapshot_page(&mut self, say: &Say) -> Result<Next, AllocError>
+    fn take_snapshot_page(&mut self, say: &Say) -> Result<Came<()>, AllocError>
         ensures takes { IfOk result (λ next. (after : Option Name) → SurveyTakes self.old (Ask.List Kind.Snapshot after) say.now next self.new) }
-        ensures heeds { IfOk result (λ next. (known : ℕ) (after : Option Name) → after ≡ last_of self.old.snapshots.roll.names.items → HeedsNext known (Ask.List Kind.Snapshot after) say.now next) }
-        ensures more { IfOk result (λ next. next ≢ Next.Over) }
-        ensures short { IfOk result IsShortNext }
+        ensures heeds { IfOk result (λ next. (known : ℕ) (after : Option Name) → after ≡ last_of self.old.snapshots.roll.names.items → HeedsCame known (Ask.List Kind.Snapshot after) say.now next) }
+        ensures more { IfOk result (λ next. next ≢ Came.All tt) }
+        ensures short { IfOk result IsShortCame }
         ensures same { OnErr result (rounds_of self.new ≡ rounds_of self.old) }
         ensures walk { self.new.walk ≡ self.old.walk }
     {
@@ -75,11 +73,11 @@ impl Survey {
         versions: Versions,
         name: Name,
         say: &Say,
-    ) -> Result<Next, AllocError>
+    ) -> Result<Came<()>, AllocError>
         ensures takes { IfOk result (λ next. SurveyTakesBy versions self.old (Ask.Get Kind.Snapshot name) say.now next self.new) }
-        ensures heeds { IfOk result (HeedsNext (upto versions) (Ask.Get Kind.Snapshot name) say.now) }
-        ensures more { IfOk result (λ next. next ≢ Next.Over) }
-        ensures short { IfOk result IsShortNext }
+        ensures heeds { IfOk result (HeedsCame (upto versions) (Ask.Get Kind.Snapshot name) say.now) }
+        ensures more { IfOk result (λ next. next ≢ Came.All tt) }
+        ensures short { IfOk result IsShortCame }
         ensures same { OnErr result (rounds_of self.new ≡ rounds_of self.old) }
         ensures walk { self.new.walk ≡ self.old.walk }
     {
@@ -88,11 +86,11 @@ impl Survey {
     }
 
     /// Takes the reply to the request for a page of indexes. It fails for memory alone, and then nothing changed.
-    fn take_index_page(&mut self, say: &Say) -> Result<Next, AllocError>
+    fn take_index_page(&mut self, say: &Say) -> Result<Came<()>, AllocError>
         ensures takes { IfOk result (λ next. (after : Option Name) → SurveyTakes self.old (Ask.List Kind.Index after) say.now next self.new) }
-        ensures heeds { IfOk result (λ next. (known : ℕ) (after : Option Name) → after ≡ last_of self.old.indexes.roll.names.items → HeedsNext known (Ask.List Kind.Index after) say.now next) }
-        ensures more { IfOk result (λ next. next ≢ Next.Over) }
-        ensures short { IfOk result IsShortNext }
+        ensures heeds { IfOk result (λ next. (known : ℕ) (after : Option Name) → after ≡ last_of self.old.indexes.roll.names.items → HeedsCame known (Ask.List Kind.Index after) say.now next) }
+        ensures more { IfOk result (λ next. next ≢ Came.All tt) }
+        ensures short { IfOk result IsShortCame }
         ensures same { OnErr result (rounds_of self.new ≡ rounds_of self.old) }
         ensures walk { self.new.walk ≡ self.old.walk }
     {
@@ -101,11 +99,11 @@ impl Survey {
     }
 
     /// Takes the reply to the request for an index. It fails for memory alone, and then nothing changed.
-    fn take_index(&mut self, name: Name, say: &Say) -> Result<Next, AllocError>
+    fn take_index(&mut self, name: Name, say: &Say) -> Result<Came<()>, AllocError>
         ensures takes { IfOk result (λ next. SurveyTakes self.old (Ask.Get Kind.Index name) say.now next self.new) }
-        ensures heeds { IfOk result (λ next. (known : ℕ) → HeedsNext known (Ask.Get Kind.Index name) say.now next) }
-        ensures more { IfOk result (λ next. next ≢ Next.Over) }
-        ensures short { IfOk result IsShortNext }
+        ensures heeds { IfOk result (λ next. (known : ℕ) → HeedsCame known (Ask.Get Kind.Index name) say.now next) }
+        ensures more { IfOk result (λ next. next ≢ Came.All tt) }
+        ensures short { IfOk result IsShortCame }
         ensures same { OnErr result (rounds_of self.new ≡ rounds_of self.old) }
         ensures walk { self.new.walk ≡ self.old.walk }
     {
@@ -123,9 +121,9 @@ impl Survey {
     }
 
     /// Begins the walk over the trees. It fails for memory alone, and then nothing changed.
-    fn begin(&mut self) -> Result<Next, AllocError>
+    fn begin(&mut self) -> Result<Came<()>, AllocError>
         ensures begins { IfOk result (WalkBegins (rounds_of self.old) (walk_of self.new.walk)) }
-        ensures short { IfOk result IsShortNext }
+        ensures short { IfOk result IsShortCame }
         ensures rounds { rounds_of self.new ≡ rounds_of self.old }
     {
         let mut walk = self.begun()?;
@@ -134,30 +132,28 @@ impl Survey {
         Ok(next_of(next))
     }
 
-    /// What comes after a turn of the packs. It fails for memory alone, after the last turn, and then nothing changed.
-    fn after_packs(&mut self, turn: Turn) -> Result<Next, AllocError>
-        requires { IsShortTurn turn }
+    /// What comes after a turn of the packs: its step; or, where all were noted, the walk begins. It fails for memory alone,
+    /// after the last turn, and then nothing changed.
+    fn after_packs(&mut self, turn: Came<()>) -> Result<Came<()>, AllocError>
+        requires { IsShortCame turn }
         ensures after { IfOk result (GoesToTrees (rounds_of self.old) (walk_of self.new.walk) turn) }
-        ensures over { IfOk result (λ next. next ≡ Next.Over → turn ≡ Turn.All) }
-        ensures short { IfOk result IsShortNext }
+        ensures over { IfOk result (λ next. next ≡ Came.All tt → turn ≡ Came.All tt) }
+        ensures short { IfOk result IsShortCame }
         ensures rounds { rounds_of self.new ≡ rounds_of self.old }
-        ensures err { OnErr result (turn ≡ Turn.All) }
+        ensures err { OnErr result (turn ≡ Came.All tt) }
     {
         match turn {
-            Turn::Ask(ask) => Ok(Next::Ask(ask)),
-            Turn::All => self.begin(),
-            Turn::Senseless => Ok(Next::Senseless),
-            Turn::Version => Ok(Next::Version),
-            Turn::Away => Ok(Next::Away),
+            Came::All(()) => self.begin(),
+            Came::Step(step) => Ok(Came::Step(step)),
         }
     }
 
     /// Takes the reply to the request for a page of packs. It fails for memory alone, and then nothing changed.
-    fn take_pack_page(&mut self, say: &Say) -> Result<Next, AllocError>
+    fn take_pack_page(&mut self, say: &Say) -> Result<Came<()>, AllocError>
         ensures takes { IfOk result (λ next. (after : Option Name) → SurveyTakes self.old (Ask.List Kind.Pack after) say.now next self.new) }
-        ensures heeds { IfOk result (λ next. (known : ℕ) (after : Option Name) → after ≡ last_of self.old.packs.roll.names.items → HeedsNext known (Ask.List Kind.Pack after) say.now next) }
-        ensures over { IfOk result (λ next. next ≡ Next.Over → (after : Option Name) → SurveyHasTaken self.old (Ask.List Kind.Pack after) self.new) }
-        ensures short { IfOk result IsShortNext }
+        ensures heeds { IfOk result (λ next. (known : ℕ) (after : Option Name) → after ≡ last_of self.old.packs.roll.names.items → HeedsCame known (Ask.List Kind.Pack after) say.now next) }
+        ensures over { IfOk result (λ next. next ≡ Came.All tt → (after : Option Name) → SurveyHasTaken self.old (Ask.List Kind.Pack after) self.new) }
+        ensures short { IfOk result IsShortCame }
         ensures same { OnErr result (StaysAtPage Kind.Pack self.old self.new) }
     {
         let turn = self.packs.take_page(say)?;
@@ -165,11 +161,11 @@ impl Survey {
     }
 
     /// Takes the reply to the request for a pack. It fails for memory alone, and then nothing changed.
-    fn take_pack(&mut self, name: Name, say: &Say) -> Result<Next, AllocError>
+    fn take_pack(&mut self, name: Name, say: &Say) -> Result<Came<()>, AllocError>
         ensures takes { IfOk result (λ next. SurveyTakes self.old (Ask.Get Kind.Pack name) say.now next self.new) }
-        ensures heeds { IfOk result (λ next. (known : ℕ) → HeedsNext known (Ask.Get Kind.Pack name) say.now next) }
-        ensures over { IfOk result (λ next. next ≡ Next.Over → SurveyHasTaken self.old (Ask.Get Kind.Pack name) self.new) }
-        ensures short { IfOk result IsShortNext }
+        ensures heeds { IfOk result (λ next. (known : ℕ) → HeedsCame known (Ask.Get Kind.Pack name) say.now next) }
+        ensures over { IfOk result (λ next. next ≡ Came.All tt → SurveyHasTaken self.old (Ask.Get Kind.Pack name) self.new) }
+        ensures short { IfOk result IsShortCame }
         ensures same { OnErr result (rounds_of self.new ≡ rounds_of self.old) }
     {
         let turn = take_pack(self.alloc, &mut self.packs, name, say)?;
@@ -183,30 +179,30 @@ impl Survey {
     }
 
     /// Takes the reply to the request for a tree. It fails for memory alone, and then nothing changed.
-    fn take_tree(&mut self, say: &Say) -> Result<Next, AllocError>
+    fn take_tree(&mut self, say: &Say) -> Result<Came<()>, AllocError>
         ensures takes { IfOk result (λ next. (pack : Name) (offset len : ℕ) → SurveyTakes self.old (Ask.Range pack offset len) say.now next self.new) }
-        ensures heeds { IfOk result (λ next. (known : ℕ) (pack : Name) (offset len : ℕ) → HeedsNext known (Ask.Range pack offset len) say.now next) }
-        ensures over { IfOk result (λ next. next ≡ Next.Over → (pack : Name) (offset len : ℕ) → SurveyHasTaken self.old (Ask.Range pack offset len) self.new) }
-        ensures short { IfOk result IsShortNext }
+        ensures heeds { IfOk result (λ next. (known : ℕ) (pack : Name) (offset len : ℕ) → HeedsCame known (Ask.Range pack offset len) say.now next) }
+        ensures over { IfOk result (λ next. next ≡ Came.All tt → (pack : Name) (offset len : ℕ) → SurveyHasTaken self.old (Ask.Range pack offset len) self.new) }
+        ensures short { IfOk result IsShortCame }
         ensures same { OnErr result (StaysAtTree self.old self.new) }
         ensures rounds { rounds_of self.new ≡ rounds_of self.old }
     {
         let Some(fact) = self.walk.asked() else {
-            return Ok(Next::Away);
+            return Ok(Came::Step(Step::Away));
         };
         let Some(note) = note_of(self.alloc, &self.walk.known.lookup, fact, say)? else {
-            return Ok(Next::Away);
+            return Ok(Came::Step(Step::Away));
         };
         let next = self.walk.take(fact.name, note)?;
         Ok(next_of(next))
     }
 
     /// Takes the reply to the request for a page of a kind. It fails for memory alone, and then what was known is known.
-    fn take_page(&mut self, kind: Kind, say: &Say) -> Result<Next, AllocError>
+    fn take_page(&mut self, kind: Kind, say: &Say) -> Result<Came<()>, AllocError>
         ensures takes { IfOk result (λ next. (after : Option Name) → SurveyTakes self.old (Ask.List kind after) say.now next self.new) }
-        ensures heeds { IfOk result (λ next. (known : ℕ) (after : Option Name) → after ≡ last_in (rounds_of self.old) kind → HeedsNext known (Ask.List kind after) say.now next) }
-        ensures over { IfOk result (λ next. next ≡ Next.Over → (after : Option Name) → SurveyHasTaken self.old (Ask.List kind after) self.new) }
-        ensures short { IfOk result IsShortNext }
+        ensures heeds { IfOk result (λ next. (known : ℕ) (after : Option Name) → after ≡ last_in (rounds_of self.old) kind → HeedsCame known (Ask.List kind after) say.now next) }
+        ensures over { IfOk result (λ next. next ≡ Came.All tt → (after : Option Name) → SurveyHasTaken self.old (Ask.List kind after) self.new) }
+        ensures short { IfOk result IsShortCame }
         ensures same { OnErr result (StaysAtPage kind self.old self.new) }
     {
         match kind {
@@ -224,11 +220,11 @@ impl Survey {
         kind: Kind,
         name: Name,
         say: &Say,
-    ) -> Result<Next, AllocError>
+    ) -> Result<Came<()>, AllocError>
         ensures takes { IfOk result (λ next. SurveyTakesBy versions self.old (Ask.Get kind name) say.now next self.new) }
-        ensures heeds { IfOk result (HeedsNext (upto versions) (Ask.Get kind name) say.now) }
-        ensures over { IfOk result (λ next. next ≡ Next.Over → SurveyHasTaken self.old (Ask.Get kind name) self.new) }
-        ensures short { IfOk result IsShortNext }
+        ensures heeds { IfOk result (HeedsCame (upto versions) (Ask.Get kind name) say.now) }
+        ensures over { IfOk result (λ next. next ≡ Came.All tt → SurveyHasTaken self.old (Ask.Get kind name) self.new) }
+        ensures short { IfOk result IsShortCame }
         ensures same { OnErr result (rounds_of self.new ≡ rounds_of self.old) }
     {
         match kind {
@@ -238,20 +234,20 @@ impl Survey {
         }
     }
 
-    /// Takes the reply to a request of the survey, of who knows these versions. It fails for memory alone, and then what was
-    /// known is known.
-    pub fn take(&mut self, versions: Versions, ask: &Ask, say: &Say) -> Result<Next, AllocError>
+    /// Takes the reply to a request of the survey, of who knows these versions: a page that doesn't rise ends the check, and
+    /// so does a snapshot of another version. It fails for memory alone, and then what was known is known.
+    pub fn take(&mut self, versions: Versions, ask: &Ask, say: &Say) -> Result<Came<()>, AllocError>
         ensures takes { IfOk result (λ next. SurveyTakesBy versions self.old ask.now say.now next self.new) }
-        ensures heeds { IfOk result (λ next. IsPageBehind (rounds_of self.old) ask.now → HeedsNext (upto versions) ask.now say.now next) }
-        ensures over { IfOk result (λ next. next ≡ Next.Over → SurveyHasTaken self.old ask.now self.new) }
-        ensures short { IfOk result IsShortNext }
+        ensures heeds { IfOk result (λ next. IsPageBehind (rounds_of self.old) ask.now → HeedsCame (upto versions) ask.now say.now next) }
+        ensures over { IfOk result (λ next. next ≡ Came.All tt → SurveyHasTaken self.old ask.now self.new) }
+        ensures short { IfOk result IsShortCame }
         ensures knows { OnErr result ((es : Trace) → SurveyKnows self.old ask.now es → SurveyKnows self.new ask.now es) }
     {
         match ask {
             Ask::List { kind, .. } => self.take_page(*kind, say),
             Ask::Get { kind, name } => self.take_object(versions, *kind, *name, say),
             Ask::Range { .. } => self.take_tree(say),
-            _ => Ok(Next::Away),
+            _ => Ok(Came::Step(Step::Away)),
         }
     }
 }

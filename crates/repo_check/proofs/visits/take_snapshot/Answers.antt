@@ -1,11 +1,13 @@
-use Rattle.std.proofs.Common.{ap}
+use Rattle.std.proofs.Common.{ap, refl}
 use Rattle.repo_session.specs.Versions.{upto}
+use Rattle.repo_session.specs.declared.jobs.Step.{Step}
+use Rattle.repo_session.specs.declared.outcomes.End.{End}
+use Rattle.repo_session.specs.declared.parts.Came.{Came}
 use Rattle.repo_session.specs.declared.rolls.Roll.{Roll}
 use Rattle.repo_check.specs.Rounds.{round_of}
 use Rattle.repo_name.specs.declared.kinds.Kind.{Kind}
 use Rattle.repo_check.specs.Arrivals.{IsRootOf}
 use Rattle.repo_check.specs.declared.rounds.Note.{Note}
-use Rattle.repo_check.specs.declared.rounds.Turn.{Turn}
 use Rattle.repo_check.proofs.Rounding.{by_versions, ended, of_any, ok_with, other_version, taken}
 use Rattle.repo_check.proofs.Heeding.{object_heeds}
 use Rattle.repo_check.proofs.visits.take_snapshot.Goals as goal
@@ -31,7 +33,7 @@ returns-in-Version-clause-takes c =
 pub returns-in-Unwelcome-clause-takes : goal.returns-in-Unwelcome-clause-takes
 returns-in-Unwelcome-clause-takes c =
     let look = rw c.in-Unwelcome.is at c.in_ok-root.ensures in
-    by_versions c.args.versions (round_of c.args.round.now) (round_of c.args.round.now) c.args.name c.args.say.now Turn.Away (ended Kind.Snapshot IsRootOf (round_of c.args.round.now) c.args.name c.args.say.now look)
+    by_versions c.args.versions (round_of c.args.round.now) (round_of c.args.round.now) c.args.name c.args.say.now (Came.Step Step.Away) (ended Kind.Snapshot IsRootOf (round_of c.args.round.now) c.args.name c.args.say.now look)
 
 pub returns-in-Root-clause-heeds : goal.returns-in-Root-clause-heeds
 returns-in-Root-clause-heeds c =
@@ -44,4 +46,4 @@ returns-in-Fault-clause-heeds c =
     of_any c.go_on-in-Fault.result _ (λ turn. object_heeds (upto c.args.versions) Kind.Snapshot c.args.name c.args.say.now look.0 turn look.1 look.3)
 
 pub returns-in-Version-clause-heeds : goal.returns-in-Version-clause-heeds
-returns-in-Version-clause-heeds c = λ ends. rw c.in-Version.is at c.in_ok-root.ensures
+returns-in-Version-clause-heeds c = λ ends. (End.Version, refl, rw c.in-Version.is at c.in_ok-root.ensures)

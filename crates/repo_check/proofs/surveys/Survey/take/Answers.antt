@@ -2,9 +2,10 @@ use Rattle.std.proofs.Common.{◌≡◌, ℕ, Option, sym, subst}
 use Rattle.std.proofs.lemmas.Result.{IfOk-weaker}
 use Rattle.repo_name.specs.declared.names.Name.{Name}
 use Rattle.repo_wire.specs.declared.messages.Ask.{Ask}
-use Rattle.repo_check.specs.Surveys.{HasTaken, HeedsNext, IsPageBehind, SurveyTakesBy, Surveys, TakesSurvey, rounds_of}
+use Rattle.repo_session.specs.declared.parts.Came.{Came}
+use Rattle.repo_check.specs.Rounds.{HeedsCame}
+use Rattle.repo_check.specs.Surveys.{HasTaken, IsPageBehind, SurveyTakesBy, Surveys, TakesSurvey, rounds_of}
 use Rattle.repo_check.specs.Walks.{walk_of}
-use Rattle.repo_check.specs.declared.surveys.Next.{Next}
 use Rattle.repo_check.proofs.Arriving.{ok_then}
 use Rattle.repo_session.specs.Versions.{upto}
 use Rattle.repo_check.proofs.Rounding.{err_with}
@@ -15,8 +16,8 @@ pub returns-in-List-clause-takes : goal.returns-in-List-clause-takes
 returns-in-List-clause-takes c =
     let old = c.args.self.now in
     let new = c.take_page.new.self in
-    let T : Ask → Next → Type 0 = λ ask next. TakesSurvey (rounds_of old) (walk_of old.walk) ask c.args.say.now next (rounds_of new) (walk_of new.walk) in
-    let P : Next → Type 0 = λ next. (after : Option Name) → T (Ask.List c.in-List.kind after) next in
+    let T : Ask → Came (Unit {0}) → Type 0 = λ ask next. TakesSurvey (rounds_of old) (walk_of old.walk) ask c.args.say.now next (rounds_of new) (walk_of new.walk) in
+    let P : Came (Unit {0}) → Type 0 = λ next. (after : Option Name) → T (Ask.List c.in-List.kind after) next in
     ok_then P (λ next. SurveyTakesBy c.args.versions old c.args.ask.now c.args.say.now next new) c.take_page.result (λ next h task token es known. subst (λ ask. T ask next) (sym c.in-List.is) (h c.in-List.after) task token es) c.take_page.ensures.takes
 
 pub returns-in-List-clause-knows : goal.returns-in-List-clause-knows
@@ -36,8 +37,8 @@ pub returns-in-Range-clause-takes : goal.returns-in-Range-clause-takes
 returns-in-Range-clause-takes c =
     let old = c.args.self.now in
     let new = c.take_tree.new.self in
-    let T : Ask → Next → Type 0 = λ ask next. TakesSurvey (rounds_of old) (walk_of old.walk) ask c.args.say.now next (rounds_of new) (walk_of new.walk) in
-    let P : Next → Type 0 = λ next. (pack : Name) (offset len : ℕ) → T (Ask.Range pack offset len) next in
+    let T : Ask → Came (Unit {0}) → Type 0 = λ ask next. TakesSurvey (rounds_of old) (walk_of old.walk) ask c.args.say.now next (rounds_of new) (walk_of new.walk) in
+    let P : Came (Unit {0}) → Type 0 = λ next. (pack : Name) (offset len : ℕ) → T (Ask.Range pack offset len) next in
     ok_then P (λ next. SurveyTakesBy c.args.versions old c.args.ask.now c.args.say.now next new) c.take_tree.result (λ next h task token es known. subst (λ ask. T ask next) (sym c.in-Range.is) (h c.in-Range.pack c.in-Range.offset c.in-Range.length) task token es) c.take_tree.ensures.takes
 
 pub returns-in-List-clause-over : goal.returns-in-List-clause-over
@@ -45,29 +46,29 @@ returns-in-List-clause-over c =
     let old = c.args.self.now in
     let new = c.take_page.new.self in
     let T : Ask → Type 0 = λ ask. HasTaken (rounds_of old) (walk_of old.walk) ask (rounds_of new) (walk_of new.walk) in
-    let P : Next → Type 0 = λ next. next ≡ Next.Over → (after : Option Name) → T (Ask.List c.in-List.kind after) in
-    ok_then P (λ next. next ≡ Next.Over → T c.args.ask.now) c.take_page.result (λ next h over. subst (λ ask. T ask) (sym c.in-List.is) (h over c.in-List.after)) c.take_page.ensures.over
+    let P : Came (Unit {0}) → Type 0 = λ next. next ≡ Came.All tt → (after : Option Name) → T (Ask.List c.in-List.kind after) in
+    ok_then P (λ next. next ≡ Came.All tt → T c.args.ask.now) c.take_page.result (λ next h over. subst (λ ask. T ask) (sym c.in-List.is) (h over c.in-List.after)) c.take_page.ensures.over
 
 pub returns-in-Range-clause-over : goal.returns-in-Range-clause-over
 returns-in-Range-clause-over c =
     let old = c.args.self.now in
     let new = c.take_tree.new.self in
     let T : Ask → Type 0 = λ ask. HasTaken (rounds_of old) (walk_of old.walk) ask (rounds_of new) (walk_of new.walk) in
-    let P : Next → Type 0 = λ next. next ≡ Next.Over → (pack : Name) (offset len : ℕ) → T (Ask.Range pack offset len) in
-    ok_then P (λ next. next ≡ Next.Over → T c.args.ask.now) c.take_tree.result (λ next h over. subst (λ ask. T ask) (sym c.in-Range.is) (h over c.in-Range.pack c.in-Range.offset c.in-Range.length)) c.take_tree.ensures.over
+    let P : Came (Unit {0}) → Type 0 = λ next. next ≡ Came.All tt → (pack : Name) (offset len : ℕ) → T (Ask.Range pack offset len) in
+    ok_then P (λ next. next ≡ Came.All tt → T c.args.ask.now) c.take_tree.result (λ next h over. subst (λ ask. T ask) (sym c.in-Range.is) (h over c.in-Range.pack c.in-Range.offset c.in-Range.length)) c.take_tree.ensures.over
 
 pub returns-in-List-clause-heeds : goal.returns-in-List-clause-heeds
 returns-in-List-clause-heeds c =
     let known = upto c.args.versions in
     let B : Ask → Type 0 = IsPageBehind (rounds_of c.args.self.now) in
-    IfOk-weaker c.take_page.result _ _ (λ next heeds behind. subst (λ ask. HeedsNext known ask c.args.say.now next) (sym c.in-List.is) (heeds known c.in-List.after (subst B c.in-List.is behind))) c.take_page.ensures.heeds
+    IfOk-weaker c.take_page.result _ _ (λ next heeds behind. subst (λ ask. HeedsCame known ask c.args.say.now next) (sym c.in-List.is) (heeds known c.in-List.after (subst B c.in-List.is behind))) c.take_page.ensures.heeds
 
 pub returns-in-Get-clause-heeds : goal.returns-in-Get-clause-heeds
 returns-in-Get-clause-heeds c =
     let known = upto c.args.versions in
-    IfOk-weaker c.take_object.result _ _ (λ next heeds behind. subst (λ ask. HeedsNext known ask c.args.say.now next) (sym c.in-Get.is) heeds) c.take_object.ensures.heeds
+    IfOk-weaker c.take_object.result _ _ (λ next heeds behind. subst (λ ask. HeedsCame known ask c.args.say.now next) (sym c.in-Get.is) heeds) c.take_object.ensures.heeds
 
 pub returns-in-Range-clause-heeds : goal.returns-in-Range-clause-heeds
 returns-in-Range-clause-heeds c =
     let known = upto c.args.versions in
-    IfOk-weaker c.take_tree.result _ _ (λ next heeds behind. subst (λ ask. HeedsNext known ask c.args.say.now next) (sym c.in-Range.is) (heeds known c.in-Range.pack c.in-Range.offset c.in-Range.length)) c.take_tree.ensures.heeds
+    IfOk-weaker c.take_tree.result _ _ (λ next heeds behind. subst (λ ask. HeedsCame known ask c.args.say.now next) (sym c.in-Range.is) (heeds known c.in-Range.pack c.in-Range.offset c.in-Range.length)) c.take_tree.ensures.heeds

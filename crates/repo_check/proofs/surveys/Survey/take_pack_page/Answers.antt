@@ -3,10 +3,10 @@ use Rattle.std.proofs.lemmas.Result.{IfOk-weaker}
 use Rattle.repo_name.specs.declared.kinds.Kind.{Kind}
 use Rattle.repo_name.specs.declared.names.Name.{Name}
 use Rattle.repo_wire.specs.declared.messages.Ask.{Ask}
+use Rattle.repo_session.specs.declared.parts.Came.{Came}
 use Rattle.repo_check.specs.Rounds.{round_of}
 use Rattle.repo_check.specs.Surveys.{GoesToTrees, RoundsView, TakesSurvey, rounds_of}
 use Rattle.repo_check.specs.Walks.{walk_of}
-use Rattle.repo_check.specs.declared.surveys.Next.{Next}
 use Rattle.repo_check.proofs.Arriving.{ok_then}
 use Rattle.repo_check.proofs.Surveying.{listing_packs}
 use Rattle.repo_check.proofs.Rounding.{err_with}
@@ -20,8 +20,8 @@ returns-clause-takes c =
     let walk = walk_of c.args.self.now.walk in
     let mid : RoundsView = record { snapshots = old.snapshots; indexes = old.indexes; packs = round_of c.take_page.new.self } in
     let now = c.after_packs.new.self in
-    let P : Next → Type 0 = λ next. GoesToTrees mid (walk_of now.walk) c.in_ok-turn.turn next in
-    let Q : Next → Type 0 = λ next. (after : Option Name) → TakesSurvey old walk (Ask.List Kind.Pack after) c.args.say.now next (rounds_of now) (walk_of now.walk) in
+    let P : Came (Unit {0}) → Type 0 = λ next. GoesToTrees mid (walk_of now.walk) c.in_ok-turn.turn next in
+    let Q : Came (Unit {0}) → Type 0 = λ next. (after : Option Name) → TakesSurvey old walk (Ask.List Kind.Pack after) c.args.say.now next (rounds_of now) (walk_of now.walk) in
     ok_then P Q c.after_packs.result (λ next goes after task token es w may h.
     subst (λ r. TakesSurvey old walk (Ask.List Kind.Pack after) c.args.say.now next r (walk_of now.walk)) (sym c.after_packs.ensures.rounds)
     (λ task token es w may h. packs_page old mid walk (walk_of now.walk) c.args.say.now c.in_ok-turn.turn next refl refl goes c.in_ok-turn.ensures.pages (ap (λ v. v.items) c.in_ok-turn.ensures.notes) task token after es w may h) task token es w may h)
