@@ -11,7 +11,7 @@ use Rattle.repo_name.specs.declared.tokens.Token.{Token}
 use Rattle.repo_pack.specs.PackLayout.{Item}
 use Rattle.repo_pack.specs.declared.writers.Sealed.{Sealed}
 use Rattle.repo_session.specs.Askers.{Asker, Holding}
-use Rattle.repo_session.specs.Jobs.{Rule, MayTurn, MayGoOn}
+use Rattle.repo_session.specs.Jobs.{Rule, MayStep, MayTurn, MayGoOn}
 use Rattle.repo_session.specs.Catalogs.{AreIndexed}
 use Rattle.repo_session.specs.Order.{ReadsKind, IsWorking}
 use Rattle.repo_session.specs.Readings.{KnowsIndexes}
@@ -212,6 +212,13 @@ turns_on rule who Knows Wants e es (Step.Ask ask) none h = (inl none, h)
 turns_on rule who Knows Wants e es (Step.Finish outcome) none h = (inl none, h)
 turns_on rule who Knows Wants e es Step.Want none h = (inl none, h.0, h.1)
 turns_on rule who Knows Wants e es Step.Away none h = absurd h
+
+-- a step of a job that never wants input is one of a job that may
+pub wants_none : (rule : Rule) (who : Asker) (Knows : Ask → Trace → Type 0) (Wants : Trace → Type 0) (e : Exchange) (es : Trace) (step : Step) → MayStep rule who Knows es e step → MayTurn rule who Knows Wants es e step
+wants_none rule who Knows Wants e es (Step.Ask ask) h = h
+wants_none rule who Knows Wants e es (Step.Finish outcome) h = h
+wants_none rule who Knows Wants e es Step.Want h = absurd h.2
+wants_none rule who Knows Wants e es Step.Away h = h
 
 -- what may be done where input is wanted
 pub input_wanted : (c : Catalog) (backing : Option PieceBacking) (b : PieceBacking) (es : Trace) → backing ≡ Some b → PieceWaits c.lookup b es → WantsInput es × WantsPieces c backing es

@@ -4,7 +4,9 @@ ghost use Rattle.std.specs.Prelude.{◌≡◌, []};
 ghost use Rattle.repo_session.specs.Sessions.{who_in};
 ghost use Rattle.repo_restore.specs.ListStates.{FitsList, IsFreshList};
 
-use repo_session::{Came, Emission, Holder, Job, Outcome, Session, SnapshotRoll, Step, Versions, Who};
+use repo_session::{
+    Came, Emission, Holder, Job, Outcome, Session, SnapshotRoll, Step, Versions, Who,
+};
 use repo_tree::Config;
 use repo_wire::{Ask, Say};
 use std::alloc::{AllocError, Global};

@@ -15,8 +15,8 @@ use crate::walks::{Turn, Walk};
 use repo_index::Fact;
 use repo_name::{Kind, Name, Thing, name_of};
 use repo_session::{
-    Came, Catalog, Emission, End, Fetched, Holder, Job, Outcome, Session, Step, Versions, Who, blob_of,
-    blob_thing, get_ask, range_ask, snapshot_end,
+    Came, Catalog, Emission, End, Fetched, Holder, Job, Outcome, Session, Step, Versions, Who,
+    blob_of, blob_thing, get_ask, range_ask, snapshot_end,
 };
 use repo_tree::{Config, Snapshot};
 use repo_wire::{Ask, Say};

@@ -62,9 +62,9 @@ returns-in-Step-clause-ok c = λ es working obeys asked.
     let new : Backup = record { steps = old.steps; position = old.position; backing = old.backing; catalog = c.read_on.new.self; alloc = old.alloc } in
     let on = (rw c.in-Step.is at c.in_ok-noted.ensures.ok) (known_under rule who) (backup_task who) c.args.holder.now.token [] es working asked.may asked.knows.knows in
     let work = asked.knows.begun in
-    let begun = (work.0, work.1, begun_still old.catalog work.0 e.ask e.say es asked.knows.knows work.2) in
+    let still = begun_still old.catalog work.0 e.ask e.say es asked.knows.knows work.2 in
     part_turns rule who (KnowsIndexes new.catalog) (Knows new) e es c.in-Step.step refl (inl refl) (λ ask due.
-    (may_read (handed_to old) (e ∷ es) ask (due_index (backup_task who) new.catalog (e ∷ es) ask due), inl (record { knows = due.knows; begun = begun; leads = asked.knows.leads; begins = asked.knows.begins }))) on
+    (may_read (handed_to old) (e ∷ es) ask (due_index (backup_task who) new.catalog (e ∷ es) ask due), inl (record { knows = due.knows; begun = (work.0, work.1, still); leads = asked.knows.leads; begins = asked.knows.begins }))) on
 
 pub returns-in-All-clause-heeds : goal.returns-in-All-clause-heeds
 returns-in-All-clause-heeds c = if_ok _ _ c.go_first.result (λ (step : Step) short es working obeys asked ends.

@@ -1,4 +1,4 @@
-use Rattle.std.proofs.Common.{◌∷◌, [], List, refl, sym, subst, inl}
+use Rattle.std.proofs.Common.{◌∷◌, [], false, List, refl, sym, subst, inl}
 use Rattle.repo_name.specs.declared.names.Name.{Name}
 use Rattle.repo_tree.specs.declared.snapshots.Snapshot.{Snapshot}
 use Rattle.repo_session.specs.Ends.{MayFollow}
@@ -18,7 +18,7 @@ pub returns-in-All-clause-steps : goal.returns-in-All-clause-steps
 returns-in-All-clause-steps c = λ es w obeys asked.
     let holding = c.args.holder.now in
     let e : Exchange = silent c.args.ask.now c.args.say.now in
-    let lists = rw c.in-All.is at c.in_ok-step.ensures.ok in
+    let lists = rw c.in-All.is at c.in_ok-read_on.ensures.ok in
     let L : List (Name × Snapshot) → Type 0 = λ rows. IsSnapshotListing (e ∷ es) rows in
     (inl refl, subst L (sym c.take_rows.ensures.rows) (lists (task_under list_rule holding.who) holding.token [] es w asked.may asked.knows).1)
 
@@ -28,7 +28,7 @@ returns-in-Step-clause-steps c = λ es w obeys asked.
     let e : Exchange = silent c.args.ask.now c.args.say.now in
     let new = c.read_on.new.self in
     let task = task_under list_rule who in
-    let lists = (rw c.in-Step.is at c.in_ok-step.ensures.ok) task c.args.holder.now.token [] es w asked.may asked.knows in
+    let lists = (rw c.in-Step.is at c.in_ok-read_on.ensures.ok) task c.args.holder.now.token [] es w asked.may asked.knows in
     let on = subst (λ versions. PartSteps (upto versions) task (KnowsSnapshots new) e es c.in-Step.step) c.versions.ensures lists in
     part_turns list_rule who (KnowsSnapshots new) (KnowsSnapshots new) e es c.in-Step.step refl (inl refl) (λ ask due. (due_snapshot task new (e ∷ es) ask due, due.knows)) on
 
@@ -38,7 +38,7 @@ pub returns-in-All-clause-heeds : goal.returns-in-All-clause-heeds
 returns-in-All-clause-heeds c = λ es w obeys asked.
     let who = c.args.holder.now.who in
     let e : Exchange = silent c.args.ask.now c.args.say.now in
-    let lists = (rw c.in-All.is at c.in_ok-step.ensures.ok) (task_under list_rule who) c.args.holder.now.token [] es w asked.may asked.knows in
+    let lists = (rw c.in-All.is at c.in_ok-read_on.ensures.ok) (task_under list_rule who) c.args.holder.now.token [] es w asked.may asked.knows in
     λ ends. absurd (subst (λ versions. MayFollow (upto versions) false e) c.versions.ensures lists.0 ends)
 
 pub returns-in-Step-clause-heeds : goal.returns-in-Step-clause-heeds
@@ -47,5 +47,5 @@ returns-in-Step-clause-heeds c = λ es w obeys asked.
     let e : Exchange = silent c.args.ask.now c.args.say.now in
     let new = c.read_on.new.self in
     let task = task_under list_rule who in
-    let lists = (rw c.in-Step.is at c.in_ok-step.ensures.ok) task c.args.holder.now.token [] es w asked.may asked.knows in
+    let lists = (rw c.in-Step.is at c.in_ok-read_on.ensures.ok) task c.args.holder.now.token [] es w asked.may asked.knows in
     part_heeds (upto who.versions) task (KnowsSnapshots new) e es c.in-Step.step (subst (λ versions. PartSteps (upto versions) task (KnowsSnapshots new) e es c.in-Step.step) c.versions.ensures lists)

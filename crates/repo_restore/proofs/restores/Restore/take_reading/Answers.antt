@@ -25,7 +25,7 @@ returns-in-All-clause-ok c = λ holding es w obeys asked.
     let same = ap (λ (v : Vec Emission Global). v.items) c.go_on.ensures.given in
     let S : Stage → Type 0 = λ stage. KnowsAtStage j stage e.ask es in
     let known = subst S c.requires asked.knows in
-    let reads = (rw c.in-All.is at c.in_ok-step.ensures.ok) (known_under (restore_rule j.snapshot) holding.who) (task_under (restore_rule j.snapshot) holding.who) holding.token e.emitted es w asked.may known.0 in
+    let reads = (rw c.in-All.is at c.in_ok-read_on.ensures.ok) (known_under (restore_rule j.snapshot) holding.who) (task_under (restore_rule j.snapshot) holding.who) holding.token e.emitted es w asked.may known.0 in
     let before = before_on j.walk j.given.items e es same known.2 in
     let turns = c.start-turn.ensures (e ∷ es) c.args.version before.no_levels before.no_entries before.not_onward in
     c.go_on.ensures.steps holding.who holding.token e es w (inl (same ∙ known.2.none_given)) (record {
@@ -38,14 +38,14 @@ returns-in-All-clause-ok c = λ holding es w obeys asked.
       came = λ asks. absurd (index_no_blob j.catalog e.ask es known.0 asks);
     })
 
-pub returns-in-Step-clause-ok : goal.returns-in-Step-clause-ok
-returns-in-Step-clause-ok c = λ holding es w obeys asked.
+pub returns-clause-ok : goal.returns-clause-ok
+returns-clause-ok c = λ holding es w obeys asked.
     let j = c.args.self.now in
     let rule = restore_rule j.snapshot in
     let e : Exchange = giving c.args.ask.now c.args.say.now j.given.items in
     let S : Stage → Type 0 = λ stage. KnowsAtStage j stage e.ask es in
     let known = subst S c.requires asked.knows in
-    let on = (rw c.in-Step.is at c.in_ok-step.ensures.ok) (known_under rule holding.who) (task_under rule holding.who) holding.token j.given.items es w asked.may known.0 in
+    let on = (rw c.in-Step.is at c.in_ok-read_on.ensures.ok) (known_under rule holding.who) (task_under rule holding.who) holding.token j.given.items es w asked.may known.0 in
     let new : Restore = record { snapshot = j.snapshot; stage = j.stage; catalog = c.read_on.new.self; walk = j.walk; given = j.given; alloc = j.alloc } in
     part_turns rule holding.who (KnowsIndexes new.catalog) (KnowsRestore new) e es c.in-Step.step refl (inl known.2.none_given) (λ ask due.
     let N : Stage → Type 0 = λ stage. KnowsAtStage new stage ask (e ∷ es) in
@@ -59,15 +59,15 @@ returns-in-All-clause-heeds c = λ holding es w obeys asked.
     let e : Exchange = giving c.args.ask.now c.args.say.now c.go_on.new.self.given.items in
     let S : Stage → Type 0 = λ stage. KnowsAtStage j stage e.ask es in
     let knows = (subst S c.requires asked.knows).0 in
-    let reads = (rw c.in-All.is at c.in_ok-step.ensures.ok) (known_under rule holding.who) (task_under rule holding.who) holding.token e.emitted es w asked.may knows in
+    let reads = (rw c.in-All.is at c.in_ok-read_on.ensures.ok) (known_under rule holding.who) (task_under rule holding.who) holding.token e.emitted es w asked.may knows in
     λ ends. absurd (reads.0 ends)
 
-pub returns-in-Step-clause-heeds : goal.returns-in-Step-clause-heeds
-returns-in-Step-clause-heeds c = λ holding es w obeys asked.
+pub returns-clause-heeds : goal.returns-clause-heeds
+returns-clause-heeds c = λ holding es w obeys asked.
     let j = c.args.self.now in
     let rule = restore_rule j.snapshot in
     let e : Exchange = giving c.args.ask.now c.args.say.now j.given.items in
     let S : Stage → Type 0 = λ stage. KnowsAtStage j stage e.ask es in
     let knows = (subst S c.requires asked.knows).0 in
-    let on = (rw c.in-Step.is at c.in_ok-step.ensures.ok) (known_under rule holding.who) (task_under rule holding.who) holding.token j.given.items es w asked.may knows in
+    let on = (rw c.in-Step.is at c.in_ok-read_on.ensures.ok) (known_under rule holding.who) (task_under rule holding.who) holding.token j.given.items es w asked.may knows in
     part_heeds (known_under rule holding.who) (task_under rule holding.who) (KnowsIndexes c.read_on.new.self) e es c.in-Step.step on
