@@ -16,6 +16,8 @@ BY_ANOTHER = re.compile(r"^(?:no proof: |not proved: )?it (?:calls|passes|waits)
 # A proof file names what the edit took away.
 NAMES_ALONE = re.compile(r"has no field|is not in scope|has no `|was not admitted")
 ONLY = re.compile(r"^only: (\S+)$", re.M)
+# So many edits are tried together: where a search for a proof fails it takes its time, and each has a few.
+MOST = 30
 
 
 class Edit:
@@ -42,10 +44,10 @@ def places(crate, file, text):
 
 
 def rounds_of(tried):
-    """The edits in rounds, in each of which a function is turned once at most; what turns anything else comes alone."""
+    """The edits in rounds of MOST at most, in each of which a function is turned once at most; what turns anything else comes alone."""
     rounds = []
     for edit in tried:
-        fitting = next((it for it in rounds if edit.is_local and all(other.is_local and not edit.functions & other.functions for other in it)), None)
+        fitting = next((it for it in rounds if len(it) < MOST and edit.is_local and all(other.is_local and not edit.functions & other.functions for other in it)), None)
         if fitting is None:
             rounds.append([edit])
         else:
