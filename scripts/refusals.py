@@ -9,7 +9,9 @@ import tempfile
 import edits
 
 TOLD = re.compile(r"^fn (\S+): (.*)$")
-PLACED = re.compile(r"^(?:note: )?(?:\./)?(\S+):\d+:\d+: (.*)$")
+PLACED = re.compile(r"^(?:note: |so far: )?(?:\./)?(\S+):\d+:\d+: (.*)$")
+# What a check tells before its end.
+UNPROVED = re.compile(r"^so far: .*: (?:error|no proof|not proved)\b")
 REFUSED = ("no proof", "not proved")
 # The function isn't proved as one that it calls isn't, or a block that it passes on.
 BY_ANOTHER = re.compile(r"^(?:no proof: |not proved: )?it (?:calls|passes|waits) ")
@@ -73,9 +75,21 @@ def checked(rt, crate, tried, kept):
             made += [] if why else [edit]
         only = [word for edit in made for name in sorted(edit.functions) for word in ("--only", name)]
         words = [*rtlib.guarded(), rtlib.RATTLE, "check", *crate.words(["--jobs", "1"], keeps=False), "--incremental", kept, *only]
-        how = {"stdin": subprocess.DEVNULL, "stdout": subprocess.PIPE, "stderr": subprocess.STDOUT}
-        told = subprocess.run(words, cwd=room, text=True, errors="replace", **how).stdout
-        return made, [] if rtlib.STALE.search(told) else told.split("\n")
+        lines = said_by(words, room, not only)
+        return made, [] if rtlib.STALE.search("\n".join(lines)) else lines
+
+
+def said_by(words, room, is_whole):
+    """The lines of a check. One of the whole crate is ended by the first that says of something that it isn't proved: so the crate isn't."""
+    how = {"stdin": subprocess.DEVNULL, "stdout": subprocess.PIPE, "stderr": subprocess.STDOUT}
+    lines = []
+    with subprocess.Popen(words, cwd=room, text=True, errors="replace", **how) as check:
+        for line in check.stdout:
+            lines.append(line.rstrip("\n"))
+            if is_whole and UNPROVED.match(line):
+                check.terminate()
+                return [*lines, "logic=not-proved"]
+    return lines
 
 
 def said_of(function, lines):
