@@ -1,5 +1,5 @@
 -- A check between its first request and its end.
-use Rattle.std.proofs.Common.{◌≡◌, ◌≢◌, ◌∷◌, [], ℕ, Bool, true, false, List, length, arith, refl, sym, ap, subst, ◌∙◌, inl, inr, ⊎_elim}
+use Rattle.std.proofs.Common.{◌≡◌, ◌≢◌, ◌∷◌, [], ℕ, Bool, true, false, List, length, arith, refl, sym, ap, subst, ◌∙◌, inl, ⊎_elim}
 use Rattle.std.specs.Bool.{◌==◌}
 use Rattle.std.proofs.lemmas.Bool.{eqb-false, eqb-true}
 use Rattle.repo_wire.specs.declared.messages.Ask.{Ask}
@@ -14,33 +14,10 @@ use Rattle.repo_session.specs.declared.jobs.Step.{Step}
 use Rattle.repo_session.specs.declared.outcomes.Outcome.{Outcome}
 use Rattle.repo_check.specs.CheckStates.{KnowsCheck}
 use Rattle.repo_check.specs.Checking.{CheckConcludes, check_rule, check_task}
-use Rattle.repo_check.specs.Rounds.{EndsCheck, KnowsRound, RoundView, StepsOn}
-use Rattle.repo_check.specs.Surveys.{RoundsView, Surveys}
-use Rattle.repo_check.specs.Walks.{WalkView}
+use Rattle.repo_check.specs.Rounds.{EndsCheck, CheckSteps}
 use Rattle.repo_check.specs.declared.checks.Check.{Check}
 use Rattle.repo_check.proofs.Again.{survey_new}
-use Rattle.repo_name.specs.declared.kinds.Kind.{Kind}
-
-round_reads : {T : Type 0} (k : Kind) (round : RoundView T) (ask : Ask) (es : Trace) → KnowsRound k round ask es → IsReading ask
-round_reads k round (Ask.List j after) es h = tt
-round_reads k round (Ask.Get j n) es h = tt
-round_reads k round Ask.Ticket es h = absurd h
-round_reads k round (Ask.Lock row) es h = absurd h
-round_reads k round (Ask.Refresh token time) es h = absurd h
-round_reads k round (Ask.Unlock token) es h = absurd h
-round_reads k round Ask.Locks es h = absurd h
-round_reads k round (Ask.Range pack offset len) es h = absurd h
-round_reads k round (Ask.Put token j n x) es h = absurd h
-round_reads k round (Ask.Delete token j n) es h = absurd h
-round_reads k round (Ask.Upgrade token) es h = absurd h
-round_reads k round Ask.Config es h = absurd h
-
--- what a survey asks for reads
-survey_reads : (rounds : RoundsView) (walk : WalkView) (ask : Ask) (es : Trace) → Surveys rounds walk ask es → IsReading ask
-survey_reads rounds walk ask es (notes, inl at) = round_reads Kind.Snapshot rounds.snapshots ask es at.snapshots
-survey_reads rounds walk ask es (notes, inr (inl at)) = round_reads Kind.Index rounds.indexes ask es at.indexes
-survey_reads rounds walk ask es (notes, inr (inr (inl at))) = round_reads Kind.Pack rounds.packs ask es at.packs
-survey_reads rounds walk ask es (notes, inr (inr (inr at))) = rw at.asked tt
+use Rattle.repo_check.proofs.Surveying.{survey_reads}
 
 reads_works : (ask : Ask) → IsReading ask → IsWork ask
 reads_works (Ask.List j after) h = tt
@@ -70,7 +47,7 @@ ends_so who e es outcome h =
     (subst C (sym h.0.1) (inl (inl h.0.2)), ⊎_elim (λ is. subst N (sym is) tt) (λ is. subst N (sym is) tt) h.1)
 
 -- what comes of a reply to a request of its survey, but the end of that, it may do
-pub step_turns : (j : Check) (who : Asker) (ask : Ask) (say : Say) (es : Trace) (step : Step) → StepsOn (check_task who) (KnowsCheck j) (silent ask say) es step → MayStep check_rule who (KnowsCheck j) es (silent ask say) step
+pub step_turns : (j : Check) (who : Asker) (ask : Ask) (say : Say) (es : Trace) (step : Step) → CheckSteps (check_task who) (KnowsCheck j) (silent ask say) es step → MayStep check_rule who (KnowsCheck j) es (silent ask say) step
 step_turns j who ask say es (Step.Ask next) h = (inl refl, may_ask j who (silent ask say ∷ es) next h.1 h.0)
 step_turns j who ask say es (Step.Finish outcome) h = (inl refl, ends_so who (silent ask say) es outcome h)
 step_turns j who ask say es Step.Want h = absurd h

@@ -30,20 +30,20 @@ use Rattle.repo_reach.specs.declared.roots.Root.{Root}
 use Rattle.repo_check.specs.Answers.{Answer, IsAnswer}
 use Rattle.repo_check.specs.Arrivals.{IsRootOf, TellsNothing}
 use Rattle.repo_check.specs.Checking.{CameFor, AreGot}
-use Rattle.repo_check.specs.Rounds.{ArePast, ComesOn, IsUntouched, RoundIsListing, IsWholeRound, AsksNext, KnowsRound, StepsOn, TurnsOn, TurnsWith, TakesObject, TakesSnapshot, Match, IsNoteOf, AreNoted, RoundView, round_of}
+use Rattle.repo_check.specs.Rounds.{ArePast, CheckComes, IsUntouched, RoundIsListing, IsWholeRound, AsksNext, KnowsRound, CheckSteps, TurnsOn, TurnsWith, TakesObject, TakesSnapshot, Match, IsNoteOf, AreNoted, RoundView, round_of}
 use Rattle.repo_check.specs.declared.rounds.Note.{Note}
 use Rattle.repo_check.specs.declared.rounds.Round.{Round}
 
 -- ---- what comes of an exchange, by what else is known
 
 module _ (task : Task) (e : Exchange) (es : Trace) (Knows Other : Ask → Trace → Type 0) (on : (ask : Ask) → Knows ask (e ∷ es) → Other ask (e ∷ es)) where
-  pub steps_as : (step : Step) → StepsOn task Knows e es step → StepsOn task Other e es step
+  pub steps_as : (step : Step) → CheckSteps task Knows e es step → CheckSteps task Other e es step
   steps_as (Step.Ask ask) h = (on ask h.0, h.1)
   steps_as (Step.Finish outcome) h = h
   steps_as Step.Want h = h
   steps_as Step.Away h = h
 
-  pub comes_as : (Holds More : Trace → Type 0) → (Holds (e ∷ es) → More (e ∷ es)) → (came : Came (Unit {0})) → ComesOn task Knows Holds came e es → ComesOn task Other More came e es
+  pub comes_as : (Holds More : Trace → Type 0) → (Holds (e ∷ es) → More (e ∷ es)) → (came : Came (Unit {0})) → CheckComes task Knows Holds came e es → CheckComes task Other More came e es
   comes_as Holds More all (Came.All _) h = all h
   comes_as Holds More all (Came.Step step) h = steps_as step h
 
@@ -69,7 +69,7 @@ module _ {T : Type 0} where
   next_on task token k round (Came.Step step) e es w kind paged asks =
       let n = asks.0 in
       let is : Step.Ask (Ask.Get k n) ≡ step = ap (λ j. Step.Ask (Ask.Get j n)) (sym kind) ∙ sym asks.1 in
-      subst (λ s. StepsOn task (KnowsRound k round) e es s) is
+      subst (λ s. CheckSteps task (KnowsRound k round) e es s) is
       ((refl, record { of_kind = kind; paged = paged; next = asks.2 }), may_get task token k round.names (length round.notes) n (e ∷ es) w paged asks.2)
 
   -- what the roll knows while its pages come
@@ -249,7 +249,7 @@ module _ (k : Kind) where
 
 module _ {T : Type 0} where
   pub page_steps : (task : Task) (k : Kind) (old new : Round T) (after : Option Name) (say : Say) (es : Trace) (step : Step) → new.roll.kind ≡ old.roll.kind → new.roll.read ≡ old.roll.read → new.notes ≡ old.notes → TakesPage old.roll say (Came.Step step) new.roll
-      → May task es (Ask.List k after) → RoundIsListing k (round_of old) es → Pages (upto task.versions) task new.roll (Came.Step step) (silent (Ask.List k after) say) es → StepsOn task (KnowsRound k (round_of new)) (silent (Ask.List k after) say) es step
+      → May task es (Ask.List k after) → RoundIsListing k (round_of old) es → Pages (upto task.versions) task new.roll (Came.Step step) (silent (Ask.List k after) say) es → CheckSteps task (KnowsRound k (round_of new)) (silent (Ask.List k after) say) es step
   page_steps task k old new after say es (Step.Ask ask) kind read notes takes may listing due =
       let e = silent (Ask.List k after) say in
       let page = takes.0 in

@@ -42,16 +42,16 @@ abbrev pub EndsCheck : ℕ → Exchange → Outcome → Type 0
 EndsCheck known e outcome = IsEndBy known e outcome × ((outcome ≡ Outcome.Ended End.BadReply) ⊎ (outcome ≡ Outcome.Ended End.Version))
 
 -- what a check does on an exchange by a part that knows this: it asks for more, which the order allows; it ends by that; or it passes on a reply that tells nothing
-abbrev pub StepsOn : Task → (Ask → Trace → Type 0) → Exchange → Trace → Step → Type 0
-StepsOn task Knows e es (Step.Ask ask) = Knows ask (e ∷ es) × May task (e ∷ es) ask
-StepsOn task Knows e es (Step.Finish outcome) = EndsCheck (upto task.versions) e outcome
-StepsOn task Knows e es Step.Want = ⊥
-StepsOn task Knows e es Step.Away = TellsNothing e.ask e.say
+abbrev pub CheckSteps : Task → (Ask → Trace → Type 0) → Exchange → Trace → Step → Type 0
+CheckSteps task Knows e es (Step.Ask ask) = Knows ask (e ∷ es) × May task (e ∷ es) ask
+CheckSteps task Knows e es (Step.Finish outcome) = EndsCheck (upto task.versions) e outcome
+CheckSteps task Knows e es Step.Want = ⊥
+CheckSteps task Knows e es Step.Away = TellsNothing e.ask e.say
 
 -- what comes of it: all came, and this holds; or such a step
-abbrev pub ComesOn : Task → (Ask → Trace → Type 0) → (Trace → Type 0) → Came (Unit {0}) → Exchange → Trace → Type 0
-ComesOn task Knows Holds (Came.All _) e es = Holds (e ∷ es)
-ComesOn task Knows Holds (Came.Step step) e es = StepsOn task Knows e es step
+abbrev pub CheckComes : Task → (Ask → Trace → Type 0) → (Trace → Type 0) → Came (Unit {0}) → Exchange → Trace → Type 0
+CheckComes task Knows Holds (Came.All _) e es = Holds (e ∷ es)
+CheckComes task Knows Holds (Came.Step step) e es = CheckSteps task Knows e es step
 
 -- where a check ends at once on the reply, the step ends it by that; where all came, none does
 abbrev pub HeedsCame : ℕ → Ask → Say → Came (Unit {0}) → Type 0
@@ -111,11 +111,11 @@ KnowsRound k round _ es = ⊥
 
 -- what comes next after an exchange
 abbrev pub TurnsOn : {T : Type 0} → Task → Kind → RoundView T → Came (Unit {0}) → Exchange → Trace → Type 0
-TurnsOn task k round turn e es = ComesOn task (KnowsRound k round) (IsWholeRound k round) turn e es
+TurnsOn task k round turn e es = CheckComes task (KnowsRound k round) (IsWholeRound k round) turn e es
 
 -- where the round goes on, or is over, this holds besides
 abbrev pub TurnsWith : {T : Type 0} → Task → Kind → RoundView T → (Trace → Type 0) → Came (Unit {0}) → Exchange → Trace → Type 0
-TurnsWith task k round Holds turn e es = ComesOn task (λ ask fs. KnowsRound k round ask fs × Holds fs) (λ fs. IsWholeRound k round fs × Holds fs) turn e es
+TurnsWith task k round Holds turn e es = CheckComes task (λ ask fs. KnowsRound k round ask fs × Holds fs) (λ fs. IsWholeRound k round fs × Holds fs) turn e es
 
 -- what a page comes to, after each trace at whose end it was asked for
 abbrev pub PagesRound : {T : Type 0} → RoundView T → Say → Came (Unit {0}) → RoundView T → Type 0

@@ -26,7 +26,7 @@ use Rattle.repo_check.specs.Arrivals.{IsIndexOf, IsPackOf, IsRootOf}
 use Rattle.repo_check.specs.Checking.{AreAnswers, IsFaultOf}
 use Rattle.repo_check.specs.Findings.{BlobIs}
 use Rattle.repo_check.specs.Gathering.{facts_noted, fault_noted, root_noted}
-use Rattle.repo_check.specs.Rounds.{AreNoted, ComesOn, HasOneMore, IsFreshRound, IsUntouched, IsWholeRound, KnowsRound, RoundView, round_of}
+use Rattle.repo_check.specs.Rounds.{AreNoted, CheckComes, HasOneMore, IsFreshRound, IsUntouched, IsWholeRound, KnowsRound, RoundView, round_of}
 use Rattle.repo_check.specs.Telling.{told}
 use Rattle.repo_check.specs.Visiting.{IsGiven}
 use Rattle.repo_check.specs.Walks.{ContentFault, Awaits, TreeIsNoted, IsFreshKnown, IsOver, IsWalkMark, WalkReads, WalkView, Walks, WalksOn, tree_fault, walk_of}
@@ -119,7 +119,7 @@ pub record IsSurveyed (rounds : RoundsView) (walk : WalkView) (es : Trace) : Typ
 
 -- what comes next after an exchange
 abbrev pub SurveysOn : Task → RoundsView → WalkView → Came (Unit {0}) → Exchange → Trace → Type 0
-SurveysOn task rounds walk next e es = ComesOn task (Surveys rounds walk) (IsSurveyed rounds walk) next e es
+SurveysOn task rounds walk next e es = CheckComes task (Surveys rounds walk) (IsSurveyed rounds walk) next e es
 
 -- what comes next is the step of a turn; after the last turn of a kind it is this
 abbrev pub GoesAfter : Came (Unit {0}) → Came (Unit {0}) → Came (Unit {0}) → Type 0
