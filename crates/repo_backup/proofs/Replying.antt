@@ -6,7 +6,6 @@ use Rattle.repo_session.specs.Traces.{Trace, object_put}
 use Rattle.repo_session.specs.declared.catalogs.Catalog.{Catalog}
 use Rattle.repo_session.specs.declared.emissions.Emission.{Emission}
 use Rattle.repo_wire.specs.declared.messages.Ask.{Ask}
-use Rattle.repo_wire.specs.declared.messages.Say.{Say}
 
 -- a backup gives nothing out, told or not
 pub none_given : (told : Bool) → (let none : List Emission = [] in cond told none none ≡ none)

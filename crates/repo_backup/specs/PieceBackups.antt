@@ -8,10 +8,11 @@ use Rattle.repo_index.specs.declared.facts.PackFacts.{PackFacts}
 use Rattle.repo_session.specs.Askers.{Holding}
 use Rattle.repo_session.specs.Jobs.{HeedsReply, Rule, TurnsOn, MayGoOn}
 use Rattle.repo_session.specs.Order.{IsWorking}
-use Rattle.repo_session.specs.Sessions.{FitsWanting, next_in, ended_in}
+use Rattle.repo_session.specs.Sessions.{FitsWanting, IsAwaited, IsPut, next_in, ended_in}
 use Rattle.repo_session.specs.Traces.{Trace, silent, fed_in, feeding}
 use Rattle.repo_session.specs.declared.jobs.Step.{Step}
 use Rattle.repo_wire.specs.declared.messages.Ask.{Ask}
+use Rattle.repo_wire.specs.declared.messages.Request.{Request}
 use Rattle.repo_wire.specs.declared.messages.Say.{Say}
 use Rattle.repo_backup.specs.Items.{AreTaken, ItemFault, place_of, fed_part, fed_of, size_of}
 use Rattle.repo_backup.specs.PieceRules.{piece_rule}
@@ -93,6 +94,18 @@ by_piece_rule h = piece_rule
 -- the code's backup stands where the trace leaves it
 abbrev pub FitsPieces : PieceBackup → Trace → Type 0
 FitsPieces b es = FitsWanting given_nothing by_piece_rule IsFreshPieces PieceKnows PieceWants b.session es
+
+-- a put was asked for after the trace, and its reply is awaited
+abbrev pub PieceAwaits : PieceBackup → Request → Trace → Type 0
+PieceAwaits b request es = IsAwaited piece_rule b.session.head.holder request es
+
+-- it was supposed that this put, which was pending, is done: the reply to it is awaited, and were it that, the backup would stand where it leads
+pub record PieceSupposes (old : PieceBackup) (request : Request) (new : PieceBackup) : Type 0 where
+  pub pending : next_in old.session ≡ Some request
+  pub unended : ended_in old.session ≡ None
+  pub put : IsPut request.ask
+  pub awaits : (es : Trace) → FitsPieces old es → PieceAwaits new request es
+  pub fits : (es : Trace) → FitsPieces old es → FitsPieces new (silent request.ask Say.Done ∷ es)
 
 -- it wants input
 abbrev pub IsHungry : PieceBackup → Type 0

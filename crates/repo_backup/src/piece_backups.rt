@@ -1,17 +1,19 @@
 //! The backup that is fed items.
 
-ghost use Rattle.std.specs.Prelude.{◌≡◌, ◌<◌, ◌↔◌, ◌∷◌, [], IsTrue, IfOk, IfErr};
+ghost use Rattle.std.specs.Prelude.{◌≡◌, ◌≢◌, ◌<◌, ◌↔◌, ◌∷◌, [], Some, IsTrue, IfOk, IfErr, IfSome, IfNone};
+ghost use Rattle.repo_wire.specs.declared.messages.Say.{Say};
 ghost use Rattle.repo_session.specs.Sessions.{who_in, next_in, ended_in};
-ghost use Rattle.repo_session.specs.Traces.{Trace, fed_in, feeding};
+ghost use Rattle.repo_session.specs.Traces.{Trace, fed_in, feeding, silent};
+ghost use Rattle.repo_session.specs.declared.outcomes.Outcome.{Outcome};
 ghost use Rattle.repo_backup.specs.Items.{AreTaken, ItemFault, place_of, IsCountOf, fed_of, fed_part, size_of};
-ghost use Rattle.repo_backup.specs.PieceBackups.{FitsPieces, IsHungry};
+ghost use Rattle.repo_backup.specs.PieceBackups.{FitsPieces, IsHungry, PieceAwaits, PieceSupposes};
 ghost use Rattle.repo_backup.specs.declared.items.FeedError.{FeedError};
 
 use crate::items::{FeedError, Item};
 use crate::piece_jobs::PieceJob;
 use repo_name::Token;
-use repo_session::{Catalog, Client, Emission, End, Outcome, Session, Who};
-use repo_wire::{Reply, Request};
+use repo_session::{Catalog, Client, Emission, End, Letter, Outcome, Session, Who};
+use repo_wire::{Reply, Request, Say};
 use std::alloc::{AllocError, Global};
 
 /// A client that backs up what it is fed, item by item: see [`Item`]. It wants input once every index was read, where
@@ -59,6 +61,7 @@ impl PieceBackup {
         ensures stays { IfErr result (λ e. (es : Trace) → FitsPieces self.old es → FitsPieces self.new es) }
         ensures next { IfErr result (λ e. (next_in self.new.session ≡ next_in self.old.session) × (ended_in self.new.session ≡ ended_in self.old.session)) }
         ensures who { who_in self.new.session ≡ who_in self.old.session }
+        ensures holder { self.new.session.head.holder ≡ self.old.session.head.holder }
     {
         if !self.wants() {
             return Err(FeedError::NotWanted);
@@ -67,6 +70,39 @@ impl PieceBackup {
         // What the job does is never to go away, so this end isn't told.
         self.session.head.follow(step, End::Abandoned);
         Ok(count)
+    }
+}
+
+impl PieceBackup {
+    /// Supposes that the put which is pending is done, and goes on by that, before the reply is there. It gives the request that is
+    /// pending, whose reply is awaited. `None` where no put is pending, or without memory, and then it stands where it stood.
+    ///
+    /// Where the reply tells that it is done, the backup stands right by it, whatever it was fed since. By any other
+    /// [`retract`](PieceBackup::retract) ends it.
+    pub fn suppose(&mut self) -> Option<Letter>
+        ensures supposed { IfSome result (λ letter. PieceSupposes self.old letter self.new) }
+        ensures fits { IfNone result ((es : Trace) → FitsPieces self.old es → FitsPieces self.new es) }
+        ensures next { IfNone result (next_in self.new.session ≡ next_in self.old.session) }
+        ensures ended { IfNone result (ended_in self.new.session ≡ ended_in self.old.session) }
+        ensures holder { self.new.session.head.holder ≡ self.old.session.head.holder }
+    {
+        self.session.suppose()
+    }
+
+    /// Ends by the reply to this request, which was awaited, where that doesn't tell that it is done.
+    pub fn retract(&mut self, letter: Letter, say: &Say)
+        ensures fits { say.now ≢ Say.Done → (es : Trace) → PieceAwaits self.old letter es → FitsPieces self.new (silent letter.ask say.now ∷ es) }
+        ensures ended { (outcome : Outcome) × (ended_in self.new.session ≡ Some outcome) }
+        ensures holder { self.new.session.head.holder ≡ self.old.session.head.holder }
+    {
+        self.session.retract(letter, say)
+    }
+
+    /// The token of its lock, from its ticket on.
+    pub fn held(&self) -> Token
+        ensures { result ≡ self.now.session.head.holder.token }
+    {
+        self.session.head.holder.token()
     }
 }
 

@@ -1,16 +1,18 @@
 -- A backup that feeds itself goes on, item by item.
 use Rattle.std.specs.Prelude.{◌++◌, ⊤, IsSome, is_some, string_bytes}
 use Rattle.std.proofs.Common.{arith, ◌≡◌, ◌≢◌, ◌≤◌, ◌∷◌, ◌⊎◌, [], ℕ, Bool, true, false, List, length, take, drop, Option, Some, None, refl, sym, ap, subst, inl, inr, length-append, ◌∙◌}
+use Rattle.std.proofs.lemmas.Option.{same_Some}
 use Rattle.repo_name.specs.declared.kinds.Kind.{Kind}
 use Rattle.repo_name.specs.declared.tokens.Token.{Token}
 use Rattle.repo_wire.specs.declared.messages.Ask.{Ask}
+use Rattle.repo_wire.specs.declared.messages.Request.{Request}
 use Rattle.repo_wire.specs.declared.messages.Say.{Say}
 use Rattle.repo_session.specs.Ends.{IsCause, before_unlock}
 use Rattle.repo_session.specs.Feeds.{Fed, fed_dir, fed_file, fed_bytes, fed_close, fed_end, fed_abandon}
 use Rattle.repo_session.specs.Order.{Task, locked, opened, IsNoUnlock, IsUnlock, IsWork, IsWorking, Obeys}
-use Rattle.repo_session.specs.Askers.{Asker}
+use Rattle.repo_session.specs.Askers.{Asker, Holding}
 use Rattle.repo_name.specs.declared.names.Name.{Name}
-use Rattle.repo_session.specs.Sessions.{who_in, ended_in}
+use Rattle.repo_session.specs.Sessions.{IsAwaited, IsPut, who_in, next_in, ended_in, token_in, token_told, token_beside}
 use Rattle.repo_session.specs.Traces.{Each, Exchange, Trace, Exchanged, giving, silent, fed_in, feeding}
 use Rattle.repo_session.specs.Versions.{upto}
 use Rattle.repo_session.specs.declared.emissions.Emission.{Emission}
@@ -22,14 +24,14 @@ use Rattle.repo_feeding.specs.inner.Rooms.{Fills, IsItemOf, IsLessBy}
 use Rattle.repo_feeding.specs.declared.reasons.GivenUp.{GivenUp}
 use Rattle.repo_feeding.specs.declared.sources.Found.{Found}
 use Rattle.repo_backup.specs.Items.{fed_of, fed_part, size_of, NobodyGaveUp, MayTake, Place, after, place_of}
-use Rattle.repo_backup.specs.PieceBackups.{PieceKnows, PieceWants, IsFreshPieces, FitsPieces, IsHungry}
+use Rattle.repo_backup.specs.PieceBackups.{PieceKnows, PieceWants, IsFreshPieces, FitsPieces, IsHungry, PieceAwaits, PieceSupposes}
 use Rattle.repo_backup.specs.PieceObedience.{pieces_obey}
 use Rattle.repo_backup.specs.PieceRules.{PieceAllows, PieceConcludes, WantsInput, WasGivenUp, piece_rule}
 use Rattle.repo_backup.specs.PieceStates.{piece_task}
 use Rattle.repo_backup.specs.declared.piece_backups.PieceBackup.{PieceBackup}
 use Rattle.repo_feeding.specs.FedObedience.{right_at, before_right}
 use Rattle.repo_feeding.specs.FedRules.{IsAsTold, IsOnTheWay, IsFedLate, AreWelcome}
-use Rattle.repo_feeding.specs.FedStates.{Feeder, IsFedRight, AreFedRight, HasCome, IsFed, IsFedUpto, FitsFed}
+use Rattle.repo_feeding.specs.FedStates.{Feeder, IsFedRight, AreFedRight, HasCome, IsFed, IsFedUpto, FitsFed, IsAhead, StandsFed, next_of, ended_of}
 use Rattle.repo_feeding.specs.Reasons.{IsNextItem, HasReason}
 use Rattle.repo_feeding.specs.Sources.{Told, whole_of, IsSound, IsUntouched, Comes}
 use Rattle.repo_feeding.specs.Unfed.{unfed}
@@ -169,8 +171,8 @@ module _ (f : Feeder) (new : PieceBackup) (es fs : Trace) (hungry : IsHungry f.b
               });
           gone = λ gave. absurd (nobody_gone (fed_in fs) wants.kept (fed.gone gave).0);
         };
-        come = λ kept. subst (λ p. HasCome told p rest) (sym place) come;
-        caused = caused (place_of (fed_in (feeding item fs)));
+        come = λ unended kept. subst (λ p. HasCome told p rest) (sym place) come;
+        caused = λ why. caused (place_of (fed_in (feeding item fs)));
       }
 
   -- one by which somebody does
@@ -195,8 +197,8 @@ module _ (f : Feeder) (new : PieceBackup) (es fs : Trace) (hungry : IsHungry f.b
                 });
             gone = λ gave. (abandoned fs long, ap (λ (p : Place). p.over) place ∙ wants.goes_on);
           };
-          come = λ kept. absurd (gone_up fs long kept);
-          caused = subst cause (sym place) caused;
+          come = λ unended kept. absurd (gone_up fs long kept);
+          caused = λ why. subst cause (sym place) caused;
         };
         full = full_gone new fs long fits;
       }
@@ -217,7 +219,7 @@ module _ (f : Feeder) (new : PieceBackup) (es fs : Trace) (hungry : IsHungry f.b
       let wants = hungry_wants f.backup fs hungry upto.fed.at in
       let p = place_of (fed_in fs) in
       fed_more f new es fs hungry upto.fed (fed_bytes (take n f.rest)) f.told (drop n f.rest) cause may (λ items gone. gone) refl fits
-      (not_over (whole_of f.told) (after p (fed_bytes (take n f.rest))) wants.goes_on) (come_part f.told p f.rest n some may (upto.come wants.kept)) caused
+      (not_over (whole_of f.told) (after p (fed_bytes (take n f.rest))) wants.goes_on) (come_part f.told p f.rest n some may (upto.come hungry.1 wants.kept)) caused
 
   -- what came, where nothing waits
   pub fed_found_item : (item : Fed) (told : Option Told) (cause : Place → Type 0) → MayTake (place_of (fed_in fs)) item → f.rest ≡ [] → GoesOn item → Comes f.told (Some item) told → ((p : Place) → cause p) → FitsPieces new (feeding item fs)
@@ -225,7 +227,7 @@ module _ (f : Feeder) (new : PieceBackup) (es fs : Trace) (hungry : IsHungry f.b
   fed_found_item item told cause may none on comes caused fits =
       let wants = hungry_wants f.backup fs hungry upto.fed.at in
       let p = place_of (fed_in fs) in
-      let here = clear_of f.told p f.rest none (upto.come wants.kept) in
+      let here = clear_of f.told p f.rest none (upto.come hungry.1 wants.kept) in
       let next = comes_on f.told item told p may comes here in
       fed_more f new es fs hungry upto.fed item told [] cause may on (comes_whole f.told (Some item) told comes) fits
       (comes_told f.told item told p comes wants.goes_on next) (come_clear told (after p item) next) caused
@@ -234,15 +236,15 @@ module _ (f : Feeder) (new : PieceBackup) (es fs : Trace) (hungry : IsHungry f.b
   pub found_next : (item : Fed) (told : Option Told) → f.rest ≡ [] → Comes f.told (Some item) told → IsNextItem (whole_of told) (place_of (fed_in fs)) item
   found_next item told none comes =
       let wants = hungry_wants f.backup fs hungry upto.fed.at in
-      comes_next f.told item told (place_of (fed_in fs)) comes (clear_of f.told (place_of (fed_in fs)) f.rest none (upto.come wants.kept))
+      comes_next f.told item told (place_of (fed_in fs)) comes (clear_of f.told (place_of (fed_in fs)) f.rest none (upto.come hungry.1 wants.kept))
 
   -- the bytes that wait do
   pub rest_next : f.rest ≢ [] → IsNextItem (whole_of f.told) (place_of (fed_in fs)) (fed_bytes f.rest)
-  rest_next some = let wants = hungry_wants f.backup fs hungry upto.fed.at in next_part f.told (place_of (fed_in fs)) f.rest some (upto.come wants.kept)
+  rest_next some = let wants = hungry_wants f.backup fs hungry upto.fed.at in next_part f.told (place_of (fed_in fs)) f.rest some (upto.come hungry.1 wants.kept)
 
   -- no more is to come, and waits, than the source was made to give
   pub hungry_less : IsLessBy 0 f.told f.rest
-  hungry_less = let wants = hungry_wants f.backup fs hungry upto.fed.at in less_first f.told (place_of (fed_in fs)) f.rest (upto.come wants.kept)
+  hungry_less = let wants = hungry_wants f.backup fs hungry upto.fed.at in less_first f.told (place_of (fed_in fs)) f.rest (upto.come hungry.1 wants.kept)
 
 -- bytes came, where nothing waits
 pub bytes_found : (f : Feeder) (es fs : Trace) (bytes : List ℕ) (told : Option Told) (cause : Place → Type 0) → f.rest ≡ [] → Comes f.told (Some (fed_bytes bytes)) told → ((p : Place) → cause p) → IsFedUpto f es fs
@@ -252,8 +254,8 @@ bytes_found f es fs bytes told cause none comes caused upto =
     let same = comes_whole f.told (Some (fed_bytes bytes)) told comes in
     record {
       fed = record { same = upto.fed.same; at = upto.fed.at; right = subst (λ whole. AreFedRight whole f.gave fs) (sym same) upto.fed.right; gone = upto.fed.gone };
-      come = λ kept. comes_waiting f.told bytes told p comes (clear_of f.told p f.rest none (upto.come kept));
-      caused = caused p;
+      come = λ unended kept. comes_waiting f.told bytes told p comes (clear_of f.told p f.rest none (upto.come unended kept));
+      caused = λ why. caused p;
     }
 
 -- nothing was fed, and what came is lost
@@ -266,17 +268,17 @@ fed_none f new es fs told rest cause same fits fed = record { same = fed.same; a
 right_next : (whole : Option (List Fed)) (gave : Bool) (ask : Ask) (say : Say) (emitted : List Emission) (fs : Trace) → AreFedRight whole gave fs → AreFedRight whole gave (giving ask say emitted ∷ fs)
 right_next whole gave ask say emitted fs h = let top = right_at whole gave fs h in (record { welcome = (tt, top.welcome); late = (λ some. absurd (some refl), top.late); so_far = top.so_far; told = top.told; reason = top.reason }, h)
 
-pub taken_on : (f : Feeder) (new : PieceBackup) (es fs : Trace) (ask : Ask) (say : Say) (emitted : List Emission) → FitsPieces new (giving ask say emitted ∷ fs) → IsFedUpto f es fs
+pub taken_on : (f : Feeder) (new : PieceBackup) (es fs : Trace) (ask : Ask) (say : Say) (emitted : List Emission) → (ended_in new.session ≡ None → ended_in f.backup.session ≡ None) → FitsPieces new (giving ask say emitted ∷ fs) → IsFedUpto f es fs
     → IsFedUpto (standing new f.told f.rest f.gave f.cause) (giving ask say emitted ∷ es) (giving ask say emitted ∷ fs)
-taken_on f new es fs ask say emitted fits upto = record {
+taken_on f new es fs ask say emitted unended fits upto = record {
   fed = record {
     same = ap (λ xs. giving ask say emitted ∷ xs) upto.fed.same;
     at = fits;
     right = right_next (whole_of f.told) f.gave ask say emitted fs upto.fed.right;
     gone = upto.fed.gone;
   };
-  come = upto.come;
-  caused = upto.caused;
+  come = λ none. upto.come (unended none);
+  caused = λ why. upto.caused (elim why [ inl gave ↦ inl gave | inr none ↦ inr (unended none) ]);
 }
 
 -- ---- the beginning, and the end
@@ -284,7 +286,7 @@ taken_on f new es fs ask say emitted fits upto = record {
 pub fits_first : (b : PieceBackup) (told : Option Told) (cause : Place → Type 0) → FitsPieces b [] → IsUntouched told → ((p : Place) → cause p) → FitsFed (standing b told [] false cause) []
 fits_first b told cause fits fresh caused = record {
   fs = [];
-  upto = record { fed = record { same = refl; at = fits; right = tt; gone = λ gave. absurd (cc) }; come = λ kept. come_clear told (place_of []) (fresh_on told fresh); caused = caused (place_of []) };
+  upto = record { fed = record { same = refl; at = fits; right = tt; gone = λ gave. absurd (cc) }; come = λ unended kept. come_clear told (place_of []) (fresh_on told fresh); caused = λ why. caused (place_of []) };
   full = full_first b fits;
 }
 
@@ -383,3 +385,75 @@ module _ {E : Type 0} (failed : E → Type 0) (whole : Option (List Fed)) where
   pub reason_so : (given_up : Option (GivenUp E)) → is_some given_up ≢ true → IsSound failed → (p : Place) → HasReason failed whole p given_up
   reason_so None none h p = h
   reason_so (Some reason) none h p = absurd (none refl)
+
+-- ---- ahead of a reply
+
+-- what was supposed to be done is awaited; and were it that, it would stand there
+pub supposed_on : (f : Feeder) (new : PieceBackup) (request : Request) (es fs : Trace) → f.gave ≡ false → PieceSupposes f.backup request new → IsFedUpto f es fs
+    → PieceAwaits new request fs × AreFedRight (whole_of f.told) false fs × IsFedUpto (standing new f.told f.rest f.gave f.cause) (silent request.ask Say.Done ∷ es) (silent request.ask Say.Done ∷ fs)
+supposed_on f new request es fs none supposes upto =
+    (supposes.awaits fs upto.fed.at, subst (λ gave. AreFedRight (whole_of f.told) gave fs) none upto.fed.right, taken_on f new es fs request.ask Say.Done [] (λ unended. supposes.unended) (supposes.fits fs upto.fed.at) upto)
+
+-- and with what was fed since, or the reason to give up, it is ahead of the reply
+pub ahead_on : (f : Feeder) (b : PieceBackup) (new : Feeder) (request : Request) (es : Trace) → f.gave ≡ false → PieceSupposes f.backup request b → FitsFed f es
+    → ((hs fs : Trace) → IsFedUpto (standing b f.told f.rest f.gave f.cause) hs fs → (more : Trace) × IsFedUpto new hs more) → new.backup.session.head.holder ≡ b.session.head.holder → whole_of new.told ≡ whole_of f.told → IsAhead new request es
+ahead_on f b new request es none supposes fits goes holder whole =
+    let k = supposed_on f b request es fits.fs none supposes fits.upto in
+    let up = goes (silent request.ask Say.Done ∷ es) (silent request.ask Say.Done ∷ fits.fs) k.2 in
+    record {
+      fs = fits.fs;
+      same = fits.upto.fed.same;
+      awaited = subst (λ (h : Holding). IsAwaited piece_rule h request fits.fs) (sym holder) k.0;
+      right = subst (λ w. AreFedRight w false fits.fs) (sym whole) k.1;
+      more = up.0;
+      upto = up.1;
+    }
+
+-- while a put is pending it tells its token
+pub token_put : (b : PieceBackup) (request : Request) → next_in b.session ≡ Some request → ended_in b.session ≡ None → IsPut request.ask → token_in b.session ≡ Some b.session.head.holder.token
+token_put b request pending unended put =
+    let token = b.session.head.holder.token in
+    (λ i. token_told token (unended i) (pending i)) ∙ ap (λ a. token_beside token a) put.4
+
+pub not_some : {A : Type 0} (o : Option A) → false ≡ is_some o → o ≡ None
+not_some None h = refl
+not_some (Some x) h = absurd (cc)
+
+-- another reply came, by which it ended
+pub retracted_on : (f : Feeder) (new : PieceBackup) (request : Request) (say : Say) (outcome : Outcome) (es : Trace) (cause : Place → Type 0) → say ≢ Say.Done → IsAhead f request es
+    → ((fs : Trace) → PieceAwaits f.backup request fs → FitsPieces new (silent request.ask say ∷ fs)) → ended_in new.session ≡ Some outcome
+    → (more : Trace) × IsFedUpto (standing new f.told f.rest false cause) (silent request.ask say ∷ es) more
+retracted_on f new request say outcome es cause other h fits ended = (
+  silent request.ask say ∷ h.fs,
+  record {
+    fed = record {
+      same = ap (λ xs. silent request.ask say ∷ xs) h.same;
+      at = fits h.fs h.awaited;
+      right = right_next (whole_of f.told) false request.ask say [] h.fs h.right;
+      gone = λ gave. absurd (cc);
+    };
+    come = λ unended. absurd (cc);
+    caused = λ why. elim why [ inl gave ↦ absurd (cc) | inr unended ↦ absurd (cc) ];
+  },
+)
+
+-- it is done
+pub settled_on : (f : Feeder) (request : Request) (say : Say) (es : Trace) → say ≡ Say.Done → IsAhead f request es → (more : Trace) × IsFedUpto f (silent request.ask say ∷ es) more
+settled_on f request say es done h = (h.more, subst (λ s. IsFedUpto f (silent request.ask s ∷ es) h.more) (sym done) h.upto)
+
+-- where it has ended it is ahead of no reply
+pub ended_fed : (f : Feeder) (awaited : Option Request) (es : Trace) (outcome : Outcome) → StandsFed f awaited es → ended_of f.backup awaited ≡ Some outcome → FitsFed f es × (ended_in f.backup.session ≡ Some outcome)
+ended_fed f None es outcome h is = (h, is)
+ended_fed f (Some request) es outcome h is = absurd (cc)
+
+-- a reply to what is pending, where it is ahead of one, is to that
+pub heard_ahead : (f : Feeder) (awaited : Option Request) (letter request : Request) (es : Trace) → awaited ≡ Some letter → next_of f.backup awaited ≡ Some request → StandsFed f awaited es → IsAhead f letter es × (letter ≡ request)
+heard_ahead f awaited letter request es is next stands = (subst (λ a. StandsFed f a es) is stands, same_Some letter request (sym (ap (next_of f.backup) is) ∙ next))
+
+-- there is no outcome, where there is none once it went on
+pub unended_before : (old new : PieceBackup) → ((outcome : Outcome) → ended_in old.session ≡ Some outcome → ended_in new.session ≡ Some outcome) → ended_in new.session ≡ None → ended_in old.session ≡ None
+unended_before old new stays none = by (ended_in old.session) refl
+  where
+    by : (o : Option Outcome) → ended_in old.session ≡ o → ended_in old.session ≡ None
+    by None is = is
+    by (Some outcome) is = let there = stays outcome is in absurd (cc)

@@ -1,6 +1,7 @@
 -- A backup that feeds itself is obedient.
-use Rattle.std.specs.Prelude.{◌≡◌, ◌⊎◌, ◌+◌, ◌∷◌, [], ℕ, Bool, false, List, Option, Some, None}
+use Rattle.std.specs.Prelude.{◌≡◌, ◌⊎◌, ◌+◌, ◌∷◌, [], ⊤, ℕ, Bool, false, List, Option, Some, None}
 use Rattle.std.proofs.Common.{refl, sym, ap, subst, inl, inr, ◌∙◌}
+use Rattle.repo_name.specs.declared.tokens.Token.{Token}
 use Rattle.repo_wire.specs.declared.messages.Ask.{Ask}
 use Rattle.repo_wire.specs.declared.messages.Request.{Request}
 use Rattle.repo_wire.specs.declared.messages.Say.{Say}
@@ -9,7 +10,9 @@ use Rattle.repo_session.specs.Clients.{IsNextRequest, IsObedientBy, TellsToken}
 use Rattle.repo_session.specs.Ends.{AreHeeded, Concludes, MayConclude, before_unlock, without_unlock}
 use Rattle.repo_session.specs.Feeds.{Fed}
 use Rattle.repo_session.specs.Order.{IsPermitted, May, Obeys}
-use Rattle.repo_session.specs.Sessions.{who_in, next_in, ended_in, token_in}
+use Rattle.repo_session.specs.Obedience.{obeys_at}
+use Rattle.repo_session.specs.Sessions.{pending_line, token_beside, who_in, next_in, ended_in, token_in}
+use Rattle.repo_session.specs.Tickets.{tells_at}
 use Rattle.repo_session.specs.Traces.{Exchange, Trace}
 use Rattle.repo_session.specs.Versions.{upto}
 use Rattle.repo_session.specs.declared.outcomes.Outcome.{Outcome}
@@ -18,7 +21,7 @@ use Rattle.repo_backup.specs.PieceObedience.{pieces_obey, pieces_tell}
 use Rattle.repo_backup.specs.PieceRules.{PieceAllows, PieceConcludes, piece_rule}
 use Rattle.repo_backup.specs.PieceStates.{piece_task}
 use Rattle.repo_feeding.specs.FedRules.{IsAsTold, IsOnTheWay, IsFedLate, IsFedSo, FedAllows, FedConcludes, fed_rule}
-use Rattle.repo_feeding.specs.FedStates.{Feeder, job_of, IsFedRight, AreFedRight, FitsFed}
+use Rattle.repo_feeding.specs.FedStates.{Feeder, job_of, IsFedRight, AreFedRight, FitsFed, IsAhead, StandsFed, next_of, ended_of, token_of}
 use Rattle.repo_feeding.specs.Sources.{whole_of}
 use Rattle.repo_feeding.specs.Unfed.{unfed}
 use Rattle.repo_feeding.specs.Unseen.{unfed_length, exchanged_so, so_exchanged, may_so, so_holds, before_so, spent_so, cause_so, heeded_so}
@@ -142,13 +145,44 @@ fed_obeys f es fits =
     let u = fits.upto.fed in
     subst P u.same (obedient_so who whole f.gave (next_in b.session) (ended_in b.session) fits.fs (right_at whole f.gave fits.fs u.right).late u.right fits.full (pieces_obey b fits.fs u.at))
 
+-- as a client
+ahead_obeys : (f : Feeder) (request : Request) (es : Trace) → IsAhead f request es → IsObedientBy (fed_rule (job_of f).who (job_of f).whole) (job_of f).who (Some request) None es
+ahead_obeys f request es h =
+    let holding = f.backup.session.head.holder in
+    let whole = whole_of f.told in
+    let P : Trace → Type 0 = λ fs. IsObedientBy (fed_rule holding.who whole) holding.who (Some request) None fs in
+    subst P h.same (obedient_so holding.who whole false (Some request) None h.fs (right_at whole false h.fs h.right).late h.right (λ both. let some = both.0 in absurd (cc))
+    (obeys_at piece_rule holding None ⊤ (λ ask fs. ⊤) (λ fs. ⊥) (pending_line holding request) h.fs (h.awaited.at None)))
+
+pub stands_obeys : (f : Feeder) (awaited : Option Request) (es : Trace) → StandsFed f awaited es
+    → IsObedientBy (fed_rule (job_of f).who (job_of f).whole) (job_of f).who (next_of f.backup awaited) (ended_of f.backup awaited) es
+stands_obeys f None es h = fed_obeys f es h
+stands_obeys f (Some request) es h = ahead_obeys f request es h
+
+-- the token of its ticket is the one that it tells
+told_so : (token : Option Token) (outcome : Option Outcome) (fs : Trace) → TellsToken token outcome fs → TellsToken token outcome (unfed fs)
+told_so token outcome fs told = record {
+  given = λ one is. exchanged_so fs Ask.Ticket (Say.Token one) (told.given one is);
+  tells = λ one none is. told.tells one none (so_exchanged fs Ask.Ticket (Say.Token one) is);
+}
+
 pub fed_tells : (f : Feeder) (es : Trace) → FitsFed f es → TellsToken (token_in f.backup.session) (ended_in f.backup.session) es
 fed_tells f es fits =
     let b = f.backup in
     let u = fits.upto.fed in
     let told = pieces_tell b fits.fs u.at in
     let P : Trace → Type 0 = λ fs. TellsToken (token_in b.session) (ended_in b.session) fs in
-    subst P u.same (record {
-      given = λ token is. exchanged_so fits.fs Ask.Ticket (Say.Token token) (told.given token is);
-      tells = λ token none is. told.tells token none (so_exchanged fits.fs Ask.Ticket (Say.Token token) is);
-    })
+    subst P u.same (told_so (token_in b.session) (ended_in b.session) fits.fs told)
+
+ahead_tells : (f : Feeder) (request : Request) (es : Trace) → IsAhead f request es → TellsToken (token_of f.backup (Some request)) None es
+ahead_tells f request es h =
+    let holding = f.backup.session.head.holder in
+    let put = h.awaited.put in
+    let at = tells_at piece_rule holding None ⊤ (λ ask fs. ⊤) (λ fs. ⊥) (pending_line holding request) h.fs (h.awaited.at None) in
+    let told : TellsToken (Some holding.token) None h.fs = subst (λ a. TellsToken (token_beside holding.token a) None h.fs) put.4 at in
+    let P : Trace → Type 0 = λ fs. TellsToken (Some holding.token) None fs in
+    subst P h.same (told_so (Some holding.token) None h.fs told)
+
+pub stands_tells : (f : Feeder) (awaited : Option Request) (es : Trace) → StandsFed f awaited es → TellsToken (token_of f.backup awaited) (ended_of f.backup awaited) es
+stands_tells f None es h = fed_tells f es h
+stands_tells f (Some request) es h = ahead_tells f request es h

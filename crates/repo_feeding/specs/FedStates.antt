@@ -1,11 +1,15 @@
 -- Where a backup that feeds itself stands.
 use Rattle.std.specs.Prelude.{◌≡◌, ◌⊎◌, ◌∷◌, [], ⊤, ℕ, Bool, true, false, List, is_some, Option, Some, None}
+use Rattle.repo_name.specs.declared.tokens.Token.{Token}
 use Rattle.repo_session.specs.Askers.{Asker}
 use Rattle.repo_session.specs.Feeds.{Fed}
-use Rattle.repo_session.specs.Sessions.{who_in}
-use Rattle.repo_session.specs.Traces.{Trace, fed_in}
+use Rattle.repo_session.specs.Sessions.{who_in, next_in, ended_in, token_in}
+use Rattle.repo_session.specs.Traces.{Trace, fed_in, silent}
+use Rattle.repo_session.specs.declared.outcomes.Outcome.{Outcome}
+use Rattle.repo_wire.specs.declared.messages.Request.{Request}
+use Rattle.repo_wire.specs.declared.messages.Say.{Say}
 use Rattle.repo_backup.specs.Items.{Place, NobodyGaveUp, place_of}
-use Rattle.repo_backup.specs.PieceBackups.{FitsPieces, IsHungry}
+use Rattle.repo_backup.specs.PieceBackups.{FitsPieces, IsHungry, PieceAwaits}
 use Rattle.repo_backup.specs.PieceRules.{WasGivenUp}
 use Rattle.repo_backup.specs.declared.piece_backups.PieceBackup.{PieceBackup}
 use Rattle.repo_feeding.specs.FedRules.{IsAsTold, IsOnTheWay, IsFedLate, AreWelcome}
@@ -64,17 +68,49 @@ pub record IsFed (f : Feeder) (es fs : Trace) : Type 0 where
   pub right : AreFedRight (whole_of f.told) f.gave fs
   pub gone : f.gave ≡ true → WasGivenUp (fed_in fs) × ((place_of (fed_in fs)).over ≡ false)
 
--- and so far all that came from the source was fed, or waits, unless somebody gave up; and the source failed where that is the reason, and nowhere else
+-- and while it goes on all that came from the source was fed, or waits, unless somebody gave up; and the source failed where that is the reason, and, while it goes on, nowhere else
 pub record IsFedUpto (f : Feeder) (es fs : Trace) : Type 0 where
   pub fed : IsFed f es fs
-  pub come : NobodyGaveUp (fed_in fs) → HasCome f.told (place_of (fed_in fs)) f.rest
-  pub caused : f.cause (place_of (fed_in fs))
+  pub come : ended_in f.backup.session ≡ None → NobodyGaveUp (fed_in fs) → HasCome f.told (place_of (fed_in fs)) f.rest
+  pub caused : (f.gave ≡ true) ⊎ (ended_in f.backup.session ≡ None) → f.cause (place_of (fed_in fs))
 
 -- it does so with some items, and wants no input
 pub record FitsFed (f : Feeder) (es : Trace) : Type 0 where
   pub fs : Trace
   pub upto : IsFedUpto f es fs
   pub full : ¬ IsHungry f.backup
+
+-- it went ahead of a reply: a put is pending, with some items before it; and were it done, the backup would stand where more items lead, so far
+pub record IsAhead (f : Feeder) (request : Request) (es : Trace) : Type 0 where
+  pub fs : Trace
+  pub same : unfed fs ≡ es
+  pub awaited : PieceAwaits f.backup request fs
+  pub right : AreFedRight (whole_of f.told) false fs
+  pub more : Trace
+  pub upto : IsFedUpto f (silent request.ask Say.Done ∷ es) more
+
+-- ---- as a client, where it went ahead of the reply to this request, or to none
+
+abbrev pub StandsFed : Feeder → Option Request → Trace → Type 0
+StandsFed f None es = FitsFed f es
+StandsFed f (Some request) es = IsAhead f request es
+
+abbrev pub next_of : PieceBackup → Option Request → Option Request
+next_of b None = next_in b.session
+next_of b (Some request) = Some request
+
+abbrev pub ended_of : PieceBackup → Option Request → Option Outcome
+ended_of b None = ended_in b.session
+ended_of b (Some request) = None
+
+abbrev pub token_of : PieceBackup → Option Request → Option Token
+token_of b None = token_in b.session
+token_of b (Some request) = Some b.session.head.holder.token
+
+-- the reason that is told: none while a reply is awaited
+abbrev pub told_reason : {E : Type 0} → Option Request → Option (GivenUp E) → Option (GivenUp E)
+told_reason None given_up = given_up
+told_reason (Some request) given_up = None
 
 -- ---- what its calls do
 

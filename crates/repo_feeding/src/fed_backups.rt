@@ -1,15 +1,17 @@
 //! The backup that feeds itself.
 
-ghost use Rattle.std.specs.Prelude.{◌≡◌, ◌⊎◌, ◌↔◌, [], ℕ, true, IsTrue, IsSome, IfSome, IfOk, IfErr, IsErrOf, OnOk, OnErr, is_some, Some, option_map};
+ghost use Rattle.std.specs.Prelude.{◌≡◌, ◌⊎◌, ◌↔◌, ◌∷◌, [], ℕ, true, IsTrue, IsSome, IfSome, IfOk, IfErr, IsErrOf, OnOk, OnErr, is_some, Some, option_map};
 ghost use Rattle.repo_name.specs.declared.names.Name.{Name};
 ghost use Rattle.repo_session.specs.Clients.{AnswersNext};
-ghost use Rattle.repo_session.specs.Sessions.{who_in, next_in, ended_in};
+ghost use Rattle.repo_wire.specs.Messages.{requests};
+ghost use Rattle.repo_wire.specs.Stream.{FitsFrame};
+ghost use Rattle.repo_session.specs.Sessions.{who_in};
 ghost use Rattle.repo_session.specs.Traces.{Trace};
 ghost use Rattle.repo_session.specs.declared.outcomes.End.{End};
 ghost use Rattle.repo_session.specs.declared.outcomes.Outcome.{Outcome};
 ghost use Rattle.repo_backup.specs.PieceBackups.{IsHungry};
-ghost use Rattle.repo_feeding.specs.FedStates.{feeder, job_of, fed_job, FitsFed, IsFedUpto, FeedsOn, FeedsPart, GivesUp, GaveUpAtOnce, FeedsUp};
-ghost use Rattle.repo_session.specs.Traces.{fed_in};
+ghost use Rattle.repo_feeding.specs.FedStates.{feeder, job_of, fed_job, FitsFed, IsAhead, StandsFed, next_of, ended_of, told_reason, IsFedUpto, FeedsOn, FeedsPart, GivesUp, GaveUpAtOnce, FeedsUp};
+ghost use Rattle.repo_session.specs.Traces.{fed_in, silent};
 ghost use Rattle.repo_backup.specs.Items.{place_of};
 ghost use Rattle.repo_feeding.specs.Reasons.{IsReason};
 ghost use Rattle.repo_feeding.specs.declared.reasons.GivenUp.{GivenUp};
@@ -21,9 +23,15 @@ use crate::rooms::Room;
 use crate::sources::{Found, Source};
 use repo_backup::{FeedError, Item, PieceBackup};
 use repo_name::Token;
-use repo_session::{Client, Emission, Outcome, Who, answers};
-use repo_wire::{Reply, Request};
+use repo_session::{Client, Emission, Letter, Outcome, Who, answers};
+use repo_wire::{Reply, Request, Say};
 use std::alloc::{AllocError, Global};
+
+/// The most bytes that are fed ahead of a reply: three quarters of a pack, since the one that is put stands in memory, too.
+const BYTES_AHEAD: usize = 12_582_912;
+
+/// The most items that are.
+const ITEMS_AHEAD: u64 = 1 << 24;
 
 /// A backup that feeds itself from a source. It gives up where the source fails, or an item isn't taken.
 #[derive(Drop)]
@@ -32,6 +40,8 @@ pub struct FedBackup<S: Source> {
     source: S,
     room: Room,
     given_up: Option<GivenUp<S::Error>>,
+    /// The put whose reply is awaited, where the backup went ahead of that.
+    awaited: Option<Letter>,
 }
 
 /// The item that was found; bytes are none.
@@ -51,7 +61,7 @@ impl<S: Source + Drop> FedBackup<S> {
     /// A backup whose ticket is pending, and that takes its items from this source. It fails for memory alone: it has
     /// room for 65,536 bytes.
     pub fn new(alloc: Global, who: Who, source: S) -> Result<FedBackup<S>, AllocError>
-        ensures fits { IsFresh (S.told source) (S.failed source) → IfOk result (λ b. FitsFed (feeder b.backup (S.told b.source) b.room (S.failed b.source) b.given_up) []) }
+        ensures fits { IsFresh (S.told source) (S.failed source) → IfOk result (λ b. StandsFed (feeder b.backup (S.told b.source) b.room (S.failed b.source) b.given_up) b.awaited []) }
         ensures job { IfOk result (λ b. job_of (feeder b.backup (S.told b.source) b.room (S.failed b.source) b.given_up) ≡ fed_job who (S.told source)) }
     {
         let room = Room::new(alloc)?;
@@ -60,6 +70,7 @@ impl<S: Source + Drop> FedBackup<S> {
             source,
             room,
             given_up: None,
+            awaited: None,
         })
     }
 
@@ -67,14 +78,19 @@ impl<S: Source + Drop> FedBackup<S> {
     /// is stored, there is none. The reason is so: that the source failed, and for what; or, where it didn't, that the item
     /// that came next couldn't be taken behind those that were fed, and for what, or that it was fed without end: of 2^64 - 1
     /// items and bytes at least. Of a source of which it isn't known what it was made to give, neither is which item came
-    /// next, nor how many came.
+    /// next, nor how many came. While a reply is awaited, of which it was ahead, none is told.
     pub fn given_up(&self) -> Option<&GivenUp<S::Error>>
-        ensures same { option_map (λ reason. reason.now) result ≡ self.now.given_up }
-        ensures abandoned { (es : Trace) → FitsFed (feeder self.now.backup (S.told self.now.source) self.now.room (S.failed self.now.source) self.now.given_up) es → ended_in self.now.backup.session ≡ Some (Outcome.Ended End.Abandoned) → IsSome result }
-        ensures stored { (es : Trace) (name : Name) (blobs bytes : ℕ) → FitsFed (feeder self.now.backup (S.told self.now.source) self.now.room (S.failed self.now.source) self.now.given_up) es → ended_in self.now.backup.session ≡ Some (Outcome.Stored name blobs bytes) → ¬ IsSome result }
+        ensures same { option_map (λ reason. reason.now) result ≡ told_reason self.now.awaited self.now.given_up }
+        ensures abandoned { (es : Trace) → StandsFed (feeder self.now.backup (S.told self.now.source) self.now.room (S.failed self.now.source) self.now.given_up) self.now.awaited es
+            → ended_of self.now.backup self.now.awaited ≡ Some (Outcome.Ended End.Abandoned) → IsSome result }
+        ensures stored { (es : Trace) (name : Name) (blobs bytes : ℕ) → StandsFed (feeder self.now.backup (S.told self.now.source) self.now.room (S.failed self.now.source) self.now.given_up) self.now.awaited es
+            → ended_of self.now.backup self.now.awaited ≡ Some (Outcome.Stored name blobs bytes) → ¬ IsSome result }
         ensures cause { (es : Trace) (fits : FitsFed (feeder self.now.backup (S.told self.now.source) self.now.room (S.failed self.now.source) self.now.given_up) es) → IfSome result (λ reason. IsReason (S.failed self.now.source) (whole_of (S.told self.now.source)) (place_of (fed_in fits.fs)) reason.now) }
     {
-        self.given_up.as_ref()
+        match &self.awaited {
+            Some(_) => None,
+            None => self.given_up.as_ref(),
+        }
     }
 
     /// Its source, as it stands.
@@ -84,11 +100,22 @@ impl<S: Source + Drop> FedBackup<S> {
         &self.source
     }
 
+    /// The request that is pending: the put whose reply is awaited, or else that of the backup.
+    fn request(&self) -> Option<&Request>
+        ensures next { option_map (λ request. request.now) result ≡ next_of self.now.backup self.now.awaited }
+        ensures frame { IfSome result (λ request. FitsFrame requests request.now) }
+    {
+        match &self.awaited {
+            Some(letter) => Some(letter.request()),
+            None => self.backup.pending(),
+        }
+    }
+
     /// Whether the reply is to the pending request.
     fn is_answered(&self, reply: &Reply) -> bool
-        ensures { IsTrue result ↔ AnswersNext (next_in self.now.backup.session) reply.now }
+        ensures { IsTrue result ↔ AnswersNext (next_of self.now.backup self.now.awaited) reply.now }
     {
-        match self.backup.pending() {
+        match self.request() {
             Some(request) => answers(request, reply),
             None => false,
         }
@@ -105,6 +132,8 @@ impl<S: Source + Drop> FedBackup<S> {
         ensures fewer { OnOk result (Lessens (S.told self.old.source) self.old.room (S.told self.new.source) self.new.room) }
         ensures hungry { OnErr result (IsHungry self.new.backup) }
         ensures job { job_of (feeder self.new.backup (S.told self.new.source) self.new.room (S.failed self.new.source) self.new.given_up) ≡ job_of (feeder self.old.backup (S.told self.old.source) self.old.room (S.failed self.old.source) self.old.given_up) }
+        ensures holder { self.new.backup.session.head.holder ≡ self.old.backup.session.head.holder }
+        ensures awaited { self.new.awaited ≡ self.old.awaited }
     {
         let found = match self.room.fill(&mut self.source) {
             Ok(found) => found,
@@ -129,6 +158,8 @@ impl<S: Source + Drop> FedBackup<S> {
         ensures fewer { OnOk result (Lessens (S.told self.old.source) self.old.room (S.told self.new.source) self.new.room) }
         ensures hungry { OnErr result (IsHungry self.new.backup) }
         ensures job { job_of (feeder self.new.backup (S.told self.new.source) self.new.room (S.failed self.new.source) self.new.given_up) ≡ job_of (feeder self.old.backup (S.told self.old.source) self.old.room (S.failed self.old.source) self.old.given_up) }
+        ensures holder { self.new.backup.session.head.holder ≡ self.old.backup.session.head.holder }
+        ensures awaited { self.new.awaited ≡ self.old.awaited }
     {
         let rest = self.room.rest();
         if rest.is_empty() {
@@ -148,6 +179,8 @@ impl<S: Source + Drop> FedBackup<S> {
         requires { IsHungry self.old.backup }
         ensures up { GivesUp (S.failed self.old.source) reason (feeder self.old.backup (S.told self.old.source) self.old.room (S.failed self.old.source) self.old.given_up) (feeder self.new.backup (S.told self.new.source) self.new.room (S.failed self.new.source) self.new.given_up) }
         ensures job { job_of (feeder self.new.backup (S.told self.new.source) self.new.room (S.failed self.new.source) self.new.given_up) ≡ job_of (feeder self.old.backup (S.told self.old.source) self.old.room (S.failed self.old.source) self.old.given_up) }
+        ensures holder { self.new.backup.session.head.holder ≡ self.old.backup.session.head.holder }
+        ensures awaited { self.new.awaited ≡ self.old.awaited }
         ensures kept { (self.new.given_up ≡ Some reason) ⊎ (self.new.given_up ≡ self.old.given_up) }
     {
         match self.backup.feed(Item::Abandon) {
@@ -163,6 +196,8 @@ impl<S: Source + Drop> FedBackup<S> {
         ensures fewer { (es fs : Trace) → IsFedUpto (feeder self.old.backup (S.told self.old.source) self.old.room (S.failed self.old.source) self.old.given_up) es fs → IsHungry self.new.backup → Lessens (S.told self.old.source) self.old.room (S.told self.new.source) self.new.room }
         ensures goes { FeedsOn (feeder self.old.backup (S.told self.old.source) self.old.room (S.failed self.old.source) self.old.given_up) (feeder self.new.backup (S.told self.new.source) self.new.room (S.failed self.new.source) self.new.given_up) }
         ensures job { job_of (feeder self.new.backup (S.told self.new.source) self.new.room (S.failed self.new.source) self.new.given_up) ≡ job_of (feeder self.old.backup (S.told self.old.source) self.old.room (S.failed self.old.source) self.old.given_up) }
+        ensures holder { self.new.backup.session.head.holder ≡ self.old.backup.session.head.holder }
+        ensures awaited { self.new.awaited ≡ self.old.awaited }
     {
         if let Err(reason) = self.feed_next() {
             self.give_up(reason);
@@ -175,6 +210,8 @@ impl<S: Source + Drop> FedBackup<S> {
         ensures full { ¬ IsHungry self.old.backup → self.new ≡ self.old }
         ensures spared { (es fs : Trace) → IsFedUpto (feeder self.old.backup (S.told self.old.source) self.old.room (S.failed self.old.source) self.old.given_up) es fs → is_some self.old.given_up ≡ true → self.new ≡ self.old }
         ensures job { job_of (feeder self.new.backup (S.told self.new.source) self.new.room (S.failed self.new.source) self.new.given_up) ≡ job_of (feeder self.old.backup (S.told self.old.source) self.old.room (S.failed self.old.source) self.old.given_up) }
+        ensures holder { self.new.backup.session.head.holder ≡ self.old.backup.session.head.holder }
+        ensures awaited { self.new.awaited ≡ self.old.awaited }
     {
         for turn in 0..u64::MAX {
             if !self.backup.wants() {
@@ -188,12 +225,47 @@ impl<S: Source + Drop> FedBackup<S> {
     }
 }
 
+impl<S: Source + Drop> FedBackup<S> {
+    /// Feeds items ahead of a reply, until the backup wants no input, or as many bytes were fed as may be.
+    fn feed_ahead(&mut self)
+        ensures goes { FeedsOn (feeder self.old.backup (S.told self.old.source) self.old.room (S.failed self.old.source) self.old.given_up) (feeder self.new.backup (S.told self.new.source) self.new.room (S.failed self.new.source) self.new.given_up) }
+        ensures job { job_of (feeder self.new.backup (S.told self.new.source) self.new.room (S.failed self.new.source) self.new.given_up) ≡ job_of (feeder self.old.backup (S.told self.old.source) self.old.room (S.failed self.old.source) self.old.given_up) }
+        ensures holder { self.new.backup.session.head.holder ≡ self.old.backup.session.head.holder }
+        ensures awaited { self.new.awaited ≡ self.old.awaited }
+    {
+        let mut fed: usize = 0;
+        for _ in 0..ITEMS_AHEAD {
+            if fed >= BYTES_AHEAD || !self.backup.wants() {
+                return;
+            }
+            fed = fed.saturating_add(self.room.rest().len());
+            self.feed_once();
+        }
+    }
+
+    /// Takes what was said to this put, of whose reply it was ahead: where it is done it stands right; else it ends by the reply, and
+    /// what it did ahead is void.
+    fn settle(&mut self, letter: Letter, say: &Say)
+        ensures settles { (es : Trace) → IsAhead (feeder self.old.backup (S.told self.old.source) self.old.room (S.failed self.old.source) self.old.given_up) letter es
+            → (more : Trace) × IsFedUpto (feeder self.new.backup (S.told self.new.source) self.new.room (S.failed self.new.source) self.new.given_up) (silent letter.ask say.now ∷ es) more }
+        ensures awaited { self.new.awaited ≡ self.old.awaited }
+        ensures job { job_of (feeder self.new.backup (S.told self.new.source) self.new.room (S.failed self.new.source) self.new.given_up) ≡ job_of (feeder self.old.backup (S.told self.old.source) self.old.room (S.failed self.old.source) self.old.given_up) }
+    {
+        match say {
+            Say::Done => {}
+            _ => {
+                self.backup.retract(letter, say);
+                self.given_up = None;
+            }
+        }
+    }
+}
+
 impl<S: Source + Drop> Client for FedBackup<S> {
     ghost use Rattle.std.specs.Prelude.{[]};
-    ghost use Rattle.repo_session.specs.Sessions.{next_in, ended_in, token_in};
-    ghost use Rattle.repo_feeding.specs.FedObedience.{fed_obeys, fed_tells};
+    ghost use Rattle.repo_feeding.specs.FedObedience.{stands_obeys, stands_tells};
     ghost use Rattle.repo_feeding.specs.FedRules.{fed_rule};
-    ghost use Rattle.repo_feeding.specs.FedStates.{FedJob, feeder, job_of, FitsFed};
+    ghost use Rattle.repo_feeding.specs.FedStates.{FedJob, feeder, job_of, StandsFed, next_of, ended_of, token_of};
 
     ghost Job = { FedJob };
 
@@ -203,35 +275,52 @@ impl<S: Source + Drop> Client for FedBackup<S> {
 
     ghost rule = { λ j. fed_rule j.who j.whole };
 
-    ghost fits = { λ b es. FitsFed (feeder b.backup (S.told b.source) b.room (S.failed b.source) b.given_up) es };
+    ghost fits = { λ b es. StandsFed (feeder b.backup (S.told b.source) b.room (S.failed b.source) b.given_up) b.awaited es };
 
-    ghost next = { λ b. next_in b.backup.session };
+    ghost next = { λ b. next_of b.backup b.awaited };
 
-    ghost ended = { λ b. ended_in b.backup.session };
+    ghost ended = { λ b. ended_of b.backup b.awaited };
 
     ghost given = { λ b. [] };
 
-    ghost token_of = { λ b. token_in b.backup.session };
+    ghost token_of = { λ b. token_of b.backup b.awaited };
 
-    ghost obedient = { λ b es fits. fed_obeys (feeder b.backup (S.told b.source) b.room (S.failed b.source) b.given_up) es fits };
+    ghost obedient = { λ b es fits. stands_obeys (feeder b.backup (S.told b.source) b.room (S.failed b.source) b.given_up) b.awaited es fits };
 
-    ghost ticketed = { λ b es fits. fed_tells (feeder b.backup (S.told b.source) b.room (S.failed b.source) b.given_up) es fits };
+    ghost ticketed = { λ b es fits. stands_tells (feeder b.backup (S.told b.source) b.room (S.failed b.source) b.given_up) b.awaited es fits };
 
     fn pending(&self) -> Option<&Request> {
-        self.backup.pending()
+        self.request()
     }
 
     fn take(&mut self, reply: &Reply) -> Result<(), AllocError> {
         if !self.is_answered(reply) {
             return Ok(());
         }
-        self.backup.take(reply)?;
+        match self.awaited.take() {
+            Some(letter) => self.settle(letter, &reply.say),
+            None => self.backup.take(reply)?,
+        }
         self.feed_up();
         Ok(())
     }
 
+    fn work_ahead(&mut self) {
+        if self.awaited.is_some() || self.given_up.is_some() {
+            return;
+        }
+        let Some(letter) = self.backup.suppose() else {
+            return;
+        };
+        self.awaited = Some(letter);
+        self.feed_ahead();
+    }
+
     fn outcome(&self) -> Option<&Outcome> {
-        self.backup.outcome()
+        match &self.awaited {
+            Some(_) => None,
+            None => self.backup.outcome(),
+        }
     }
 
     fn emitted(&self) -> &[Emission] {
@@ -239,6 +328,9 @@ impl<S: Source + Drop> Client for FedBackup<S> {
     }
 
     fn token(&self) -> Option<Token> {
-        self.backup.token()
+        match &self.awaited {
+            Some(_) => Some(self.backup.held()),
+            None => self.backup.token(),
+        }
     }
 }

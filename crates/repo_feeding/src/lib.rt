@@ -5,6 +5,10 @@
 //! source, until something is pending or it has ended. So it never wants anything of its driver: `drive`, and `drive_again`
 //! of repo_dial with its retries, go over it as over any client, and what was fed isn't asked for again.
 //!
+//! While the reply to a put is awaited it goes ahead: it supposes that the put is done, and makes what it puts next of the
+//! items that come next. Where the reply tells that it is done, that is what it would have made then; by any other reply it
+//! ends.
+//!
 //! Promised: what it asks for, and how it ends, is what a backup may that was fed some items in their places between its
 //! exchanges, and no snapshot is put but of items that ended. Where the source fails, or an item isn't taken, the backup is
 //! given up, and for no other reason but that it was fed without end; the reason is kept, and is the true one; and a source

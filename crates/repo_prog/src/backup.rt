@@ -2,7 +2,7 @@
 
 ghost use Rattle.std.specs.Prelude.{◌≡◌, ◌≢◌, [], List, option_map};
 ghost use Rattle.repo_name.specs.Rows.{IsHost};
-ghost use Rattle.repo_session.specs.Sessions.{ended_in};
+ghost use Rattle.repo_feeding.specs.FedStates.{ended_of};
 ghost use Rattle.repo_files.specs.declared.walk_ends.Skipped.{Skipped};
 ghost use Rattle.repo_feeding.specs.Sources.{IsFresh, whole_of};
 ghost use Rattle.repo_prog.specs.declared.status.Status.{Status};
@@ -143,7 +143,7 @@ fn show_ended<S: Source<Error = WalkError> + LeavesOut + Drop, O: Write, F: Writ
     output: &mut O,
     faults: &mut F,
 ) -> Status
-    ensures shows { ShowsStored (ended_in backup.now.backup.session) (unflawed result) (O.contents output.old) (O.contents output.new) }
+    ensures shows { ShowsStored (ended_of backup.now.backup backup.now.awaited) (unflawed result) (O.contents output.old) (O.contents output.new) }
     ensures whole { result ≡ Status.Done → S.skipped backup.now.source ≡ [] }
     ensures flawed { result ≡ Status.Flawed → S.skipped backup.now.source ≢ [] }
     ensures silent { result ≡ Status.Done → faults.new ≡ faults.old }

@@ -262,6 +262,24 @@ module _ {L C : Type 0} (Hearing Saying : L → List ℕ → L → Type 0) (befo
     unsaid : AreAskedInTurn before told (asked_in i.talk (next new)) i.passages
     unsaid = turn_rests before told i.talk (next new) i.passages i.in_turn
 
+    -- the client worked ahead
+    pub gone_ahead : (later : C) → next later ≡ next new → ((es : Trace) → Fits new es → Fits later es) → (Also : Talk → Type 0) → Also i.talk
+        → (gone : Gone Hearing Saying before told instance Fits next old from later connection to count) × Also gone.talk
+    gone_ahead later same fits Also also = (
+      record {
+        passages = i.passages;
+        passes = i.passes;
+        talk = i.talk;
+        in_turn = i.in_turn;
+        reads = i.reads;
+        went = went_same instance Fits old new later i.talk i.went fits;
+        counted = i.counted;
+        whole = i.whole;
+        first = ap (first_carried (sent_in i.talk)) same ∙ i.first;
+      },
+      also,
+    )
+
     -- nothing is pending
     pub gone_done : (n : ℕ) → count ≡ n → next new ≡ None → (Also : Talk → Type 0) → Also i.talk
         → (driven : DrivesOver Hearing Saying before told instance Fits next old from (Ok n) new connection to) × Also driven.said.talk

@@ -1,5 +1,8 @@
 -- Where a session stands after a reply, over plain values.
-use Rattle.std.proofs.Common.{arith, ◌≡◌, ◌≢◌, ◌≤◌, ◌+◌, ◌-◌, ◌^◌, ◌∷◌, ◌++◌, ◌⊎◌, [], ℕ, List, length, Option, Some, None, cond, refl, sym, ap, subst, inl, inr, length-append, ◌∙◌}
+use Rattle.std.specs.Prelude.{⊤}
+use Rattle.std.proofs.Common.{arith, ◌≡◌, ◌≢◌, ◌≤◌, ◌+◌, ◌-◌, ◌^◌, ◌∷◌, ◌++◌, ◌⊎◌, [], ℕ, Bool, true, false, List, length, Option, Some, None, cond, refl, sym, ap, subst, inl, inr, length-append, ◌∙◌}
+use Rattle.repo_name.specs.declared.names.Name.{Name}
+use Rattle.repo_name.specs.declared.kinds.Kind.{Kind}
 use Rattle.repo_name.specs.declared.rows.LockRow.{LockRow}
 use Rattle.repo_name.specs.declared.tokens.Token.{Token}
 use Rattle.repo_wire.specs.declared.messages.Ask.{Ask}
@@ -23,7 +26,7 @@ use Rattle.repo_session.specs.Jobs.{Rule, task_under, known_under, HeedsOn, MayA
 use Rattle.repo_session.specs.Lines.{IsSentOnLine, IsFinished, IsClosed, IsIdle, or_spent}
 use Rattle.repo_session.specs.Obedience.{still_whole, holds_whole}
 use Rattle.repo_session.specs.Order.{Task, ticketed, locked, lock_row, opened, Holds, IsWork, IsUnlock, IsWorking, May, IsPermitted, Obeys}
-use Rattle.repo_session.specs.Sessions.{KnowsAt, SessionWaits, SessionWants, SessionRests, SessionStands, SessionAt, SessionEndsBy, Leaves, FollowsStep, took}
+use Rattle.repo_session.specs.Sessions.{IsPut, IsAwaited, KnowsAt, SessionWaits, SessionWants, SessionRests, SessionStands, SessionAt, SessionEndsBy, Leaves, FollowsStep, took}
 use Rattle.repo_session.specs.Traces.{Each, Exchange, Trace, giving, silent}
 use Rattle.repo_session.proofs.Causes.{config_faultless}
 use Rattle.repo_session.proofs.Heeding.{follow_before, heeded_before, heeded_of, heeded_spent, welcome_follows}
@@ -424,6 +427,18 @@ module _ (rule : Rule) (holding : Holding) (lock : Option LockRow) (Fresh : Type
     so_far : Each (MayFollow (known_under rule holding.who) rule.notes) es
     so_far = all_before working.1 (holds_whole (task_under rule holding.who) holding.token es (holds_of (task_under rule holding.who) holding.token es working.0))
 
+    -- it is awaited, whatever else the job knows by now
+    pub still_awaited : IsPut r.ask → IsAwaited rule holding r es
+    still_awaited put = record {
+      put = put;
+      at = λ lock'. record {
+        instance = refl;
+        obeys = at.obeys;
+        heeded = subst (λ o. AreHeeded (known_under rule holding.who) rule.notes o (before_unlock es)) working.1 at.heeded;
+        stands = record { next = waits.next; counted = waits.next.sequence; knows = at_work rule holding lock' ⊤ (λ ask fs. ⊤) (λ fs. ⊥) None r.ask es work (working.0, refl, tt) };
+      };
+    }
+
     -- the session ends on the reply
     pub work_left : (say : Say) (Fresh' : Type 0) (Knows' : Ask → Trace → Type 0) (Wants' : Trace → Type 0) (end : End) (old new : Head) → old.line ≡ line → old.holder ≡ holding → IsPassedOn rule.notes r.ask say
         → SessionEndsBy r.ask say end → Leaves old end new → SessionAt rule holding lock Fresh' Knows' Wants' new.line (silent r.ask say ∷ es)
@@ -512,6 +527,33 @@ input_taken rule holding lock Fresh Knows Wants (Step.Finish o) end old new es i
     finishes rule holding lock Fresh Knows Wants old.line new.line o es (subst (λ (h : Holding). IsFinished old.line o h.token new.line) is s) i counted obeys (holds_of (task_under rule holding.who) holding.token es held) m (heeded_of (known_under rule holding.who) rule.notes (Some o) es all)
 input_taken rule holding lock Fresh Knows Wants Step.Want end old new es is i none counted obeys all held m s = idles rule holding lock Fresh Knows Wants old.line new.line es s i counted none obeys held m.0 m.1 all
 input_taken rule holding lock Fresh Knows Wants Step.Away end old new es is i none counted obeys all held m s = absurd m
+
+-- what is sent on a step doesn't depend on what was pending
+pub follows_none : (step : Step) (end : End) (old new : Head) → FollowsStep (record old { line = record old.line { next = None } }) step end new → FollowsStep old step end new
+follows_none (Step.Ask ask) end old new h = h
+follows_none (Step.Finish outcome) end old new h = h
+follows_none Step.Want end old new h = h
+follows_none Step.Away end old new h = record { fenced = h.fenced; other = h.other }
+
+-- a put is work of the job
+pub put_work : (ask : Ask) → IsPut ask → IsWork ask
+put_work ask (token, k, n, x, is) = subst IsWork (sym is) tt
+
+-- any reply to it but that it is done is passed on
+put_unwelcome : (token : Token) (k : Kind) (n : Name) (x : List ℕ) (say : Say) → say ≢ Say.Done → IsUnwelcome (Ask.Put token k n x) say
+put_unwelcome token k n x (Say.Refused code) other = tt
+put_unwelcome token k n x (Say.Token t) other = λ suits. suits
+put_unwelcome token k n x Say.Done other = absurd (other refl)
+put_unwelcome token k n x (Say.Names more names) other = λ suits. suits
+put_unwelcome token k n x (Say.Bytes bytes) other = λ suits. suits
+put_unwelcome token k n x (Say.LockList rows) other = λ suits. suits
+
+put_passed : (notes : Bool) (token : Token) (k : Kind) (n : Name) (x : List ℕ) (say : Say) → say ≢ Say.Done → IsPassedOn notes (Ask.Put token k n x) say
+put_passed false token k n x say other = put_unwelcome token k n x say other
+put_passed true token k n x say other = (put_unwelcome token k n x say other, λ tells. tells)
+
+pub put_other : (notes : Bool) (ask : Ask) (say : Say) → IsPut ask → say ≢ Say.Done → IsPassedOn notes ask say
+put_other notes ask say (token, k, n, x, is) other = subst (λ a. IsPassedOn notes a say) (sym is) (put_passed notes token k n x say other)
 
 -- a session of the same rule, holder and lock
 pub session_as : {H : Type 0} (rule : H → Rule) (h h' : H) (holding holding' : Holding) (lock lock' : Option LockRow) (Fresh : Type 0) (Knows : Ask → Trace → Type 0) (Wants : Trace → Type 0) (line : Line) (es : Trace) → h' ≡ h → holding' ≡ holding

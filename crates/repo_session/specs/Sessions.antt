@@ -1,5 +1,7 @@
 -- Where a session stands, and what it does by itself.
-use Rattle.std.specs.Prelude.{◌≡◌, ◌≢◌, ◌⊎◌, ◌+◌, [], ℕ, Bool, true, false, cond, List, length, Option, Some, None, ◌∷◌}
+use Rattle.std.specs.Prelude.{◌≡◌, ◌≢◌, ◌⊎◌, ◌+◌, [], ⊤, ℕ, Bool, true, false, cond, List, length, Option, Some, None, ◌∷◌}
+use Rattle.repo_name.specs.declared.kinds.Kind.{Kind}
+use Rattle.repo_name.specs.declared.names.Name.{Name}
 use Rattle.repo_name.specs.declared.rows.LockRow.{LockRow}
 use Rattle.repo_name.specs.declared.tokens.Token.{Token}
 use Rattle.repo_wire.specs.declared.messages.Ask.{Ask}
@@ -151,6 +153,31 @@ TakesWork handed rule fresh knows wants given old say end new = (request : Reque
 abbrev pub TakesReply : {J H : Type 0} → (J → H) → (H → Rule) → (J → Type 0) → (J → Ask → Trace → Type 0) → (J → Trace → Type 0) → (J → List Emission) → Session J → Reply → Session J → Type 0
 TakesReply handed rule fresh knows wants given old reply new = (request : Request) → old.head.line.next ≡ Some request → IsReplyTo request reply
     → (es : Trace) → FitsWanting handed rule fresh knows wants old es → FitsWanting handed rule fresh knows wants new (exchange request reply (given_by given new) ∷ es)
+
+-- ---- how a session goes ahead of a reply
+
+-- it puts an object
+abbrev pub IsPut : Ask → Type 0
+IsPut ask = (token : Token) × (k : Kind) × (n : Name) × (x : List ℕ) × (ask ≡ Ask.Put token k n x)
+
+-- this request is pending, and there is no outcome
+abbrev pub pending_line : Holding → Request → Line
+pending_line holding request = record { instance = holding.who.instance; sequence = request.sequence; next = Some request; outcome = None }
+
+-- a put was asked for after the trace, and its reply is awaited, whatever else is known by now
+pub record IsAwaited (rule : Rule) (holding : Holding) (request : Request) (es : Trace) : Type 0 where
+  pub put : IsPut request.ask
+  pub at : (lock : Option LockRow) → SessionAt rule holding lock ⊤ (λ ask fs. ⊤) (λ fs. ⊥) (pending_line holding request) es
+
+-- it was supposed that this put, which was pending, is done: the reply to it is awaited, and were it that, the session would stand where it leads
+pub record Supposes {J H : Type 0} (handed : J → H) (rule : H → Rule) (fresh : J → Type 0) (knows : J → Ask → Trace → Type 0) (wants : J → Trace → Type 0) (given : J → List Emission) (old : Session J) (request : Request) (new : Session J) : Type 0 where
+  pub pending : next_in old ≡ Some request
+  pub unended : ended_in old ≡ None
+  pub put : IsPut request.ask
+  pub awaits : (es : Trace) → FitsWanting handed rule fresh knows wants old es → IsAwaited (rule (handed new.job)) new.head.holder request es
+  pub fits : (es : Trace) → FitsWanting handed rule fresh knows wants old es → FitsWanting handed rule fresh knows wants new (giving request.ask Say.Done (given_by given new) ∷ es)
+
+-- ---- what stays
 
 -- it fits each trace that it fitted
 abbrev pub StaysFitting : {J H : Type 0} → (J → H) → (H → Rule) → (J → Type 0) → (J → Ask → Trace → Type 0) → (J → Trace → Type 0) → Session J → Session J → Type 0

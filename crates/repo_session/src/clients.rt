@@ -70,6 +70,18 @@ pub trait Client {
         ensures given { OnErr result (given self.new ≡ given self.old) }
         ensures job { job self.new ≡ job self.old };
 
+    /// Goes on with what doesn't wait for the reply to the pending request, if there is something: it is for the time in which that
+    /// request was sent and its reply isn't there. What fitted fits, and `pending`, `outcome`, `emitted` and `token` are as before.
+    /// Without memory less is done.
+    fn work_ahead(&mut self)
+        ensures fits { (es : Trace) → fits self.old es → fits self.new es }
+        ensures next { next self.new ≡ next self.old }
+        ensures ended { ended self.new ≡ ended self.old }
+        ensures given { given self.new ≡ given self.old }
+        ensures token { token_of self.new ≡ token_of self.old }
+        ensures job { job self.new ≡ job self.old }
+    {}
+
     /// How the job ended, once it has. An unlock may still be pending then.
     fn outcome(&self) -> Option<&Outcome>
         ensures { option_map (λ outcome. outcome.now) result ≡ ended self.now };

@@ -1,6 +1,6 @@
 //! Sessions: a job as a client.
 
-ghost use Rattle.std.specs.Prelude.{◌≡◌, ◌≢◌, ◌↔◌, [], IsTrue, Option, Some, OnOk, OnErr, IsOk};
+ghost use Rattle.std.specs.Prelude.{◌≡◌, ◌≢◌, ◌↔◌, ◌∷◌, [], IsTrue, Option, Some, OnOk, OnErr, IsOk, IfSome, IfNone};
 ghost use Rattle.repo_name.specs.declared.rows.LockRow.{LockRow};
 ghost use Rattle.repo_name.specs.declared.tokens.Token.{Token};
 ghost use Rattle.repo_wire.specs.declared.messages.Ask.{Ask};
@@ -13,13 +13,15 @@ ghost use Rattle.repo_session.specs.Askers.{row_of};
 ghost use Rattle.repo_session.specs.Clients.{AnswersNext, IsSteady};
 ghost use Rattle.repo_session.specs.Jobs.{IsShortStep};
 ghost use Rattle.repo_session.specs.Lines.{IsSentOnLine, IsClosed};
-ghost use Rattle.repo_session.specs.Sessions.{FitsWanting, ended_in, KeepsLock, Leaves, FollowsStep, given_by, took, who_in, TakesConfig, TakesWork, TakesReply, StaysFitting, StaysAtWork, StaysEnded};
+ghost use Rattle.repo_session.specs.Sessions.{FitsWanting, ended_in, KeepsLock, Leaves, FollowsStep, given_by, took, who_in, IsAwaited, Supposes, TakesConfig, TakesWork, TakesReply, StaysFitting, StaysAtWork, StaysEnded};
+ghost use Rattle.repo_session.specs.Traces.{Trace, giving};
 
 use crate::clients::Client;
 use crate::connections::answers;
 use crate::emissions::Emission;
 use crate::ends::{config_end, end_of};
 use crate::jobs::{Job, Step};
+use crate::letters::Letter;
 use crate::lines::Line;
 use crate::outcomes::{End, Outcome};
 use crate::who::{Claim, Holder, Who};
@@ -263,6 +265,60 @@ impl<J: Job + Drop> Session<J> {
             }
             _ => self.take_work(&reply.say, end),
         }
+    }
+}
+
+impl<J: Job + Drop> Session<J> {
+    /// Supposes that the put which is pending is done, and goes on by that, before the reply is there. It gives the request that is
+    /// pending, whose reply is awaited. `None` where no put is pending, or without memory, and then it stands where it stood.
+    ///
+    /// Where the reply tells that it is done, the session stands right by it. By any other [`retract`](Session::retract) ends it.
+    pub fn suppose(&mut self) -> Option<Letter>
+        ensures supposed { IfSome result (λ letter. Supposes J.handed J.rule J.fresh J.knows J.wants J.given self.old letter self.new) }
+        ensures fits { IfNone result (StaysFitting J.handed J.rule J.fresh J.knows J.wants self.old self.new) }
+        ensures head { IfNone result (self.new.head ≡ self.old.head) }
+        ensures given { IfNone result (given_by J.given self.new ≡ given_by J.given self.old) }
+        ensures handed { J.handed self.new.job ≡ J.handed self.old.job }
+        ensures holder { self.new.head.holder ≡ self.old.head.holder }
+    {
+        if self.head.line.outcome.is_some() {
+            return None;
+        }
+        let Some(letter) = &self.head.line.next else {
+            return None;
+        };
+        let ask = &letter.request().ask;
+        let Ask::Put { .. } = ask else {
+            return None;
+        };
+        let Ok(step) = self.job.reply(&self.head.holder, ask, &Say::Done) else {
+            return None;
+        };
+        self.told = is_taken(&step);
+        let letter = self.head.line.next.take();
+        self.head.follow(step, End::BadReply);
+        letter
+    }
+
+    /// Ends by the reply to this request, which was awaited, where that doesn't tell that it is done.
+    pub fn retract(&mut self, letter: Letter, say: &Say)
+        ensures fits { say.now ≢ Say.Done → (es : Trace) → IsAwaited (J.rule (J.handed self.old.job)) self.old.head.holder letter es
+            → FitsWanting J.handed J.rule J.fresh J.knows J.wants self.new (giving letter.ask say.now (given_by J.given self.new) ∷ es) }
+        ensures ended { (outcome : Outcome) × (ended_in self.new ≡ Some outcome) }
+        ensures job { self.new.job ≡ self.old.job }
+        ensures holder { self.new.head.holder ≡ self.old.head.holder }
+    {
+        let request = letter.request();
+        let end = end_of(&request.ask, say);
+        let (instance, sequence) = (request.instance, request.sequence);
+        self.told = false;
+        self.head.line = Line {
+            instance,
+            sequence,
+            next: Some(letter),
+            outcome: None,
+        };
+        self.head.leave(end);
     }
 }
 

@@ -2,6 +2,7 @@ use Rattle.std.proofs.Common.{[], ap, inl, inr, ◌∙◌}
 use Rattle.repo_session.specs.Askers.{Asker}
 use Rattle.repo_feeding.specs.FedStates.{feeder, fed_job}
 use Rattle.repo_feeding.specs.Sources.{whole_of}
+use Rattle.repo_feeding.proofs.Feeding.{ended_fed}
 use Rattle.repo_prog.proofs.JobLemmas.{stored, backup_obeyed, backup_none}
 use Rattle.repo_prog.proofs.TellLemmas.{came_done, tells_as}
 use Rattle.repo_prog.proofs.backup.backup_from.Goals as goal
@@ -17,7 +18,7 @@ returns-in-Ok-drive_again-clause-obeyed g c =
     let told = g.S.Source.told c.args.source in
     let made = c.in-Ok-new.ensures in
     let job = made.job ∙ ap (λ (w : Asker). fed_job w told) c.in-Ok.ensures in
-    backup_obeyed (λ b. feeder b.backup (g.S.Source.told b.source) b.room (g.S.Source.failed b.source) b.given_up) _ c.args.caller.now c.args.host.now (whole_of told) c.in-Ok-new.backup (made.fits c.requires.fresh) job c.args.retry _ c.drive_again.new.client _ _
+    backup_obeyed (λ b. feeder b.backup (g.S.Source.told b.source) b.room (g.S.Source.failed b.source) b.given_up) (λ b. b.awaited) _ c.args.caller.now c.args.host.now (whole_of told) c.in-Ok-new.backup (made.fits c.requires.fresh) job c.args.retry _ c.drive_again.new.client _ _
     (g.D.Dial.connections c.args.dial.now) (g.D.Dial.connections c.drive_again.new.dial) c.in-Ok-drive_again.ensures.again
 
 pub returns-in-Ok-drive_again-clause-tells : goal.returns-in-Ok-drive_again-clause-tells
@@ -25,7 +26,7 @@ returns-in-Ok-drive_again-clause-tells g c =
     let told = g.S.Source.told c.args.source in
     let made = c.in-Ok-new.ensures in
     let job = made.job ∙ ap (λ (w : Asker). fed_job w told) c.in-Ok.ensures in
-    tells_as _ _ _ _ _ (λ s is. stored (λ b. feeder b.backup (g.S.Source.told b.source) b.room (g.S.Source.failed b.source) b.given_up) _ c.args.caller.now c.args.host.now (whole_of told) c.in-Ok-new.backup (made.fits c.requires.fresh) job c.args.retry c.in-Ok-drive_again.field-0
+    tells_as _ _ _ _ _ (λ s is. stored (λ b. feeder b.backup (g.S.Source.told b.source) b.room (g.S.Source.failed b.source) b.given_up) (λ b. b.awaited) _ c.args.caller.now c.args.host.now (whole_of told) c.in-Ok-new.backup (made.fits c.requires.fresh) job c.args.retry c.in-Ok-drive_again.field-0
     c.drive_again.new.client _ _ (g.D.Dial.connections c.args.dial.now) (g.D.Dial.connections c.drive_again.new.dial) s.0 s.1 s.2 c.in-Ok-drive_again.ensures.again is) _ c.show_ended.ensures.shows
 
 pub returns-clause-obeyed : goal.returns-clause-obeyed
@@ -33,7 +34,7 @@ returns-clause-obeyed g c =
     let told = g.S.Source.told c.args.source in
     let made = c.in-Ok-new.ensures in
     let job = made.job ∙ ap (λ (w : Asker). fed_job w told) c.in-Ok.ensures in
-    backup_obeyed (λ b. feeder b.backup (g.S.Source.told b.source) b.room (g.S.Source.failed b.source) b.given_up) _ c.args.caller.now c.args.host.now (whole_of told) c.in-Ok-new.backup (made.fits c.requires.fresh) job c.args.retry _ c.drive_again.new.client _ _
+    backup_obeyed (λ b. feeder b.backup (g.S.Source.told b.source) b.room (g.S.Source.failed b.source) b.given_up) (λ b. b.awaited) _ c.args.caller.now c.args.host.now (whole_of told) c.in-Ok-new.backup (made.fits c.requires.fresh) job c.args.retry _ c.drive_again.new.client _ _
     (g.D.Dial.connections c.args.dial.now) (g.D.Dial.connections c.drive_again.new.dial) c.in-Err.ensures.again
 
 pub returns-in-Ok-drive_again-clause-whole : goal.returns-in-Ok-drive_again-clause-whole
@@ -41,11 +42,13 @@ returns-in-Ok-drive_again-clause-whole g c = λ done. (
     let b = c.drive_again.new.client in
     let fits = c.in-Ok-drive_again.ensures.again.went.fits [] (c.in-Ok-new.ensures.fits c.requires.fresh) in
     let came = came_done _ _ _ _ _ (inl done) c.show_ended.ensures.shows in
-    (b.source, (b.backup, (b.room, (b.given_up, (_, fits, (came.0, came.1))))), c.show_ended.ensures.whole done))
+    let ended = ended_fed (feeder b.backup (g.S.Source.told b.source) b.room (g.S.Source.failed b.source) b.given_up) b.awaited _ _ fits came.1 in
+    (b.source, (b.backup, (b.room, (b.given_up, (_, ended.0, (came.0, ended.1))))), c.show_ended.ensures.whole done))
 
 pub returns-in-Ok-drive_again-clause-flawed : goal.returns-in-Ok-drive_again-clause-flawed
 returns-in-Ok-drive_again-clause-flawed g c = λ done. (
     let b = c.drive_again.new.client in
     let fits = c.in-Ok-drive_again.ensures.again.went.fits [] (c.in-Ok-new.ensures.fits c.requires.fresh) in
     let came = came_done _ _ _ _ _ (inr done) c.show_ended.ensures.shows in
-    (b.source, (b.backup, (b.room, (b.given_up, (_, fits, (came.0, came.1))))), c.show_ended.ensures.flawed done))
+    let ended = ended_fed (feeder b.backup (g.S.Source.told b.source) b.room (g.S.Source.failed b.source) b.given_up) b.awaited _ _ fits came.1 in
+    (b.source, (b.backup, (b.room, (b.given_up, (_, ended.0, (came.0, ended.1))))), c.show_ended.ensures.flawed done))

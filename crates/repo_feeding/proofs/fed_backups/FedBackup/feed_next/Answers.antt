@@ -1,4 +1,4 @@
-use Rattle.std.proofs.Common.{arith, ◌≢◌, [], length, refl, sym, ap, subst, take, ◌∙◌}
+use Rattle.std.proofs.Common.{arith, ◌≢◌, [], length, refl, sym, ap, subst, inr, take, ◌∙◌}
 use Rattle.std.proofs.lemmas.Bool.{eqb-false}
 use Rattle.std.proofs.lemmas.List.{take_all}
 use Rattle.repo_session.specs.Feeds.{fed_bytes}
@@ -19,7 +19,7 @@ returns-in-Ok-clause-ok g c = λ es fs upto. (
     let f = feeder old.backup (g.S.Source.told old.source) old.room (g.S.Source.failed old.source) old.given_up in
     let failed = g.S.Source.failed old.source in
     let none = no_reason f es fs c.requires upto.fed in
-    let sound = sound_of failed (whole_of f.told) (place_of (fed_in fs)) old.given_up none upto.caused in
+    let sound = sound_of failed (whole_of f.told) (place_of (fed_in fs)) old.given_up none (upto.caused (inr c.requires.1)) in
     let cause : Place → Type 0 = λ p. HasReason failed (whole_of f.told) p old.given_up in
     let n = c.in-Ok.count in
     let new = c.feed.new.self in
@@ -35,7 +35,7 @@ returns-in-Err-clause-err g c = λ es fs upto. (
     let f = feeder old.backup (g.S.Source.told old.source) old.room (g.S.Source.failed old.source) old.given_up in
     let failed = g.S.Source.failed old.source in
     let none = no_reason f es fs c.requires upto.fed in
-    let sound = sound_of failed (whole_of f.told) (place_of (fed_in fs)) old.given_up none upto.caused in
+    let sound = sound_of failed (whole_of f.told) (place_of (fed_in fs)) old.given_up none (upto.caused (inr c.requires.1)) in
     let some : old.room ≢ [] = subst (λ bytes. bytes ≢ []) c.rest-rest.ensures (some_bytes c.rest-rest.result.now (eqb-false (length c.rest-rest.result.now) 0 (sym c.is_empty.ensures ∙ c.if-is_empty.false))) in
     let all = take_all (length old.room) old.room (omega (arith)) in
     let fault = subst (λ bytes. ItemFault (place_of (fed_in fs)) (fed_bytes (take (length bytes) bytes)) c.in-Err.error) c.rest-rest.ensures (c.in-Err.ensures.fault c.requires fs upto.fed.at) in (

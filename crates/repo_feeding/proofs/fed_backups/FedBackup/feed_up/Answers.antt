@@ -1,5 +1,5 @@
 use Rattle.std.specs.Prelude.{◌-◌, ◌^◌}
-use Rattle.std.proofs.Common.{arith, ◌≤◌, refl, ◌∙◌}
+use Rattle.std.proofs.Common.{arith, ◌≤◌, refl, inr, ◌∙◌}
 use Rattle.repo_session.specs.Traces.{fed_in}
 use Rattle.repo_backup.specs.Items.{place_of}
 use Rattle.repo_feeding.specs.FedStates.{feeder}
@@ -12,7 +12,7 @@ pub loop-turn-init : goal.loop-turn-init
 loop-turn-init g c =
     let s = c.args.self.now in
     let f = feeder s.backup (g.S.Source.told s.source) s.room (g.S.Source.failed s.source) s.given_up in
-    record { goes = λ es fs upto. (fs, upto); less = λ es fs upto hungry. hungry_less f s.backup es fs hungry upto; full = λ none. refl; still = λ none. none; job = refl }
+    record { goes = λ es fs upto. (fs, upto); less = λ es fs upto hungry. hungry_less f s.backup es fs hungry upto; full = λ none. refl; still = λ none. none; job = refl; holder = refl; awaited = refl }
 
 pub loop-turn-preserved : goal.loop-turn-preserved
 loop-turn-preserved g c =
@@ -25,6 +25,8 @@ loop-turn-preserved g c =
       full = λ none. absurd (c.loop-turn.invariant.still none hungry);
       still = λ none. absurd (c.loop-turn.invariant.still none hungry);
       job = c.feed_once.ensures.job ∙ c.loop-turn.invariant.job;
+      holder = c.feed_once.ensures.holder ∙ c.loop-turn.invariant.holder;
+      awaited = c.feed_once.ensures.awaited ∙ c.loop-turn.invariant.awaited;
     }
 
 pub returns-then-not-wants-clause-up : goal.returns-then-not-wants-clause-up
@@ -45,7 +47,7 @@ returns-then-wants-clause-up g c = λ es fs upto. (
     let told = g.S.Source.told s.source in
     let f = feeder s.backup told s.room (g.S.Source.failed s.source) s.given_up in
     let hungry = c.wants-2.ensures.0 c.if-wants.true in
-    let sound = sound_of (g.S.Source.failed s.source) (whole_of told) (place_of (fed_in m.0)) s.given_up (no_reason f es m.0 hungry m.1.fed) m.1.caused in
+    let sound = sound_of (g.S.Source.failed s.source) (whole_of told) (place_of (fed_in m.0)) s.given_up (no_reason f es m.0 hungry m.1.fed) (m.1.caused (inr hungry.1)) in
     let many : 2 ^ 64 - 1 ≤ c.loop-turn.turn = omega (arith, c.loop-turn-test.false) in
     c.give_up.ensures.up es m.0 m.1.fed (sound, less_endless c.loop-turn.turn told s.room many (c.loop-turn.invariant.less es fs upto hungry)))
 

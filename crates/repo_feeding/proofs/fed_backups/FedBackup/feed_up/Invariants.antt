@@ -13,4 +13,6 @@ invariant-loop-turn g l = record {
   full : ¬ IsHungry l.fn.self.backup → l.self ≡ l.fn.self;
   still : ¬ IsHungry l.fn.self.backup → ¬ IsHungry l.self.backup;
   job : job_of (feeder l.self.backup (g.S.Source.told l.self.source) l.self.room (g.S.Source.failed l.self.source) l.self.given_up) ≡ job_of (feeder l.fn.self.backup (g.S.Source.told l.fn.self.source) l.fn.self.room (g.S.Source.failed l.fn.self.source) l.fn.self.given_up);
+  holder : l.self.backup.session.head.holder ≡ l.fn.self.backup.session.head.holder;
+  awaited : l.self.awaited ≡ l.fn.self.awaited;
 }
