@@ -50,21 +50,25 @@ class Site:
         return f"{client[0].returncode}|{out.decode()}|{faults.decode()}"
 
 
-@trial
-def a_backup_reads_on_while_a_pack_is_stored():
-    """The reply to the first pack is held back until more was read than is before it is put. All is stored as it is."""
-    held = []
-
-    def holds_back(has_read):
+def holding_back(held):
+    """A hook that holds back the reply to the first pack until more was read than is before that is put, and notes how far that is."""
+    def with_reader(has_read):
         def after(_, request, __):
             if is_pack(request) and not held:
                 awaits(lambda: has_read() >= READ_AHEAD, "more was read")
                 held.append(has_read())
             return True
         return after
+    return with_reader
+
+
+@trial
+def a_backup_reads_on_while_a_pack_is_stored():
+    """All is stored as it is."""
+    held = []
     with Yard(*NUMBERS, is_store=True) as yard, Server(yard.root, connections=9) as server:
         site = Site(yard)
-        name = matches(site.backed_up(server, after=holds_back), STORED, "backup")[0]
+        name = matches(site.backed_up(server, after=holding_back(held)), STORED, "backup")[0]
         holds(held and held[0] < 20 * MIB, f"{held} bytes were read")
         restores(server.address, name, yard.top / "to", entries(site.home))
         is_clean(server.address)
@@ -72,25 +76,19 @@ def a_backup_reads_on_while_a_pack_is_stored():
 
 @trial
 def a_backup_that_was_ahead_ends_by_what_it_is_told():
-    """Its lock is removed while it is ahead of the reply to its first pack: nothing of what it made meanwhile is put."""
-    removed = []
-
-    def removes(has_read):
-        def before(_, request):
-            if is_pack(request) and not removed:
-                has_status(told("unlock", yard.server.address, "--remove-all"), 0)
-                removed.append(True)
-            return True
-        return before
-
-    def holds_back(has_read):
-        def after(_, request, __):
-            if is_pack(request):
-                awaits(lambda: has_read() >= READ_AHEAD, "more was read")
-            return True
-        return after
-    with Yard(*NUMBERS, is_store=True) as yard, Server(yard.root, "--at-once", 4, connections=9) as yard.server:
+    """Its lock is removed before its first pack arrives: nothing of what it made ahead of the reply to that is put."""
+    held, removed = [], []
+    with Yard(*NUMBERS, is_store=True) as yard, Server(yard.root, "--at-once", 4, connections=9) as server:
         site = Site(yard)
-        same(site.backed_up(yard.server, before=removes, after=holds_back), "1||fenced\n")
+
+        def removes(_):
+            def before(_, request):
+                if is_pack(request) and not removed:
+                    has_status(told("unlock", server.address, "--remove-all"), 0)
+                    removed.append(True)
+                return True
+            return before
+        same(site.backed_up(server, before=removes, after=holding_back(held)), "1||fenced\n")
+        holds(held, "nothing was held back")
         same(list(yard.root.glob("data/*/*")), [], "packs")
-        is_clean(yard.server.address)
+        is_clean(server.address)

@@ -415,10 +415,6 @@ token_put b request pending unended put =
     let token = b.session.head.holder.token in
     (λ i. token_told token (unended i) (pending i)) ∙ ap (λ a. token_beside token a) put.4
 
-pub not_some : {A : Type 0} (o : Option A) → false ≡ is_some o → o ≡ None
-not_some None h = refl
-not_some (Some x) h = absurd (cc)
-
 -- another reply came, by which it ended
 pub retracted_on : (f : Feeder) (new : PieceBackup) (request : Request) (say : Say) (outcome : Outcome) (es : Trace) (cause : Place → Type 0) → say ≢ Say.Done → IsAhead f request es
     → ((fs : Trace) → PieceAwaits f.backup request fs → FitsPieces new (silent request.ask say ∷ fs)) → ended_in new.session ≡ Some outcome

@@ -1,7 +1,8 @@
 use Rattle.std.proofs.Common.{Some, sym, ap, subst, ◌∙◌}
 use Rattle.repo_session.specs.Askers.{Holding}
+use Rattle.repo_backup.proofs.Closing.{none_there}
 use Rattle.repo_feeding.specs.FedStates.{FedJob, feeder, FitsFed, StandsFed, ended_of, token_of}
-use Rattle.repo_feeding.proofs.Feeding.{ahead_on, token_put, not_some}
+use Rattle.repo_feeding.proofs.Feeding.{ahead_on, token_put}
 use Rattle.repo_feeding.proofs.fed_backups.FedBackupClient.work_ahead.Goals as goal
 
 pub returns-clause-fits : goal.returns-clause-fits
@@ -10,18 +11,18 @@ returns-clause-fits g c = λ es stands. (
     let new = c.feed_ahead.new.self in
     let f = feeder old.backup (g.S.Source.told old.source) old.room (g.S.Source.failed old.source) old.given_up in
     let now = feeder new.backup (g.S.Source.told new.source) new.room (g.S.Source.failed new.source) new.given_up in
-    let fits : FitsFed f es = subst (λ a. StandsFed f a es) (not_some old.awaited c.if-is_some.ensures) stands in
+    let fits : FitsFed f es = subst (λ a. StandsFed f a es) (none_there old.awaited (sym c.if-is_some.ensures)) stands in
     subst (λ a. StandsFed now a es) (sym c.feed_ahead.ensures.awaited)
     (ahead_on f c.suppose.new.self now c.in-Some.letter es (sym c.if-is_some-2.ensures) c.in-Some.ensures.supposed fits c.feed_ahead.ensures.goes c.feed_ahead.ensures.holder (ap (λ (j : FedJob). j.whole) c.feed_ahead.ensures.job)))
 
 pub returns-clause-ended : goal.returns-clause-ended
 returns-clause-ended g c =
     let old = c.args.self.now in
-    ap (ended_of c.feed_ahead.new.self.backup) c.feed_ahead.ensures.awaited ∙ sym (ap (ended_of old.backup) (not_some old.awaited c.if-is_some.ensures) ∙ c.in-Some.ensures.supposed.unended)
+    ap (ended_of c.feed_ahead.new.self.backup) c.feed_ahead.ensures.awaited ∙ sym (ap (ended_of old.backup) (none_there old.awaited (sym c.if-is_some.ensures)) ∙ c.in-Some.ensures.supposed.unended)
 
 pub returns-clause-token : goal.returns-clause-token
 returns-clause-token g c =
     let old = c.args.self.now in
     let s = c.in-Some.ensures.supposed in
-    let told = ap (token_of old.backup) (not_some old.awaited c.if-is_some.ensures) ∙ token_put old.backup c.in-Some.letter s.pending s.unended s.put in
+    let told = ap (token_of old.backup) (none_there old.awaited (sym c.if-is_some.ensures)) ∙ token_put old.backup c.in-Some.letter s.pending s.unended s.put in
     ap (token_of c.feed_ahead.new.self.backup) c.feed_ahead.ensures.awaited ∙ ap (λ (h : Holding). Some h.token) (c.feed_ahead.ensures.holder ∙ c.suppose.ensures.holder) ∙ sym told
