@@ -12,7 +12,7 @@ ghost use Rattle.repo_backup.specs.Waiting.{name_in, PacksBlobs, TakesAllButOne,
 
 use crate::packing::Packing;
 use repo_index::Lookup;
-use repo_name::{BLOBS_LIMIT, BlobKind, Name};
+use repo_name::{BLOB_LIMIT, BLOBS_LIMIT, BlobKind, Name};
 use repo_pack::PackWriter;
 use repo_sha::digests;
 use std::alloc::{AllocError, Global};
@@ -23,6 +23,20 @@ const SIDE_BY_SIDE: usize = 8;
 
 /// With so many bytes or more chunks wait no longer: 8,388,608.
 const BYTES_WAITING: usize = 8_388_608;
+
+/// From so many bytes on a chunk is one of a long file's: 65,536.
+const LONG: usize = 65_536;
+
+/// Makes room for all chunks that may wait together, where the first one is long: so their bytes are moved no more. It fails for
+/// memory alone, and changes no byte.
+fn make_room(bytes: &mut Vec<u8>, first: &[u8]) -> Result<(), AllocError>
+    ensures { bytes.new.items ≡ bytes.old.items }
+{
+    if !bytes.is_empty() || first.len() < LONG {
+        return Ok(());
+    }
+    bytes.reserve_exact(BYTES_WAITING + BLOB_LIMIT)
+}
 
 /// Chunks that ended and have no name yet, one behind another in one buffer, so that they can be named side by side. A
 /// clause sees the chunks.
@@ -79,6 +93,7 @@ impl Ended {
         ensures err { OnErr result (self.new ≡ self.old) }
     {
         self.lengths.reserve(1)?;
+        make_room(&mut self.bytes, chunk)?;
         self.bytes.extend_from_slice(chunk)?;
         self.lengths.push(chunk.len()).unwrap();
         Ok(())

@@ -229,6 +229,7 @@ fn take_bytes(
                 } = bite;
                 taken += count;
                 if listed.is_some() {
+                    file.reuse(first.or(chunk));
                     file.ended.reuse(ended.or(named));
                     return Ok(Took::All(taken, listed));
                 }
@@ -242,6 +243,7 @@ fn take_bytes(
             }
         }
     }
+    file.reuse(first);
     file.ended.reuse(ended);
     Ok(Took::All(taken, None))
 }

@@ -110,7 +110,7 @@ fn append(
 }
 
 impl PieceFile {
-    ghost use Rattle.repo_backup.specs.Pieces.{ScansOn, first_ended, first_rest};
+    ghost use Rattle.repo_backup.specs.Pieces.{IsSameFile, ScansOn, first_ended, first_rest};
 
     /// An empty file. It takes no memory.
     pub fn new(alloc: Global, params: Params, name: Text) -> PieceFile
@@ -169,6 +169,23 @@ impl PieceFile {
         self.chunker = chunker_of(self.params, self.rest.as_slice());
         self.content.truncate(mark.chunks);
         self.size = mark.size;
+    }
+
+    /// Goes on in the memory of a chunk that ended, if one is handed in, where that is more: the bytes behind the chunks are as they
+    /// were, and the next chunk needs no other memory. It takes none.
+    pub fn reuse(&mut self, chunk: Option<Vec<u8>>)
+        ensures { IsSameFile self.old self.new }
+    {
+        let Some(mut room) = chunk else {
+            return;
+        };
+        if room.capacity() <= self.rest.capacity() {
+            return;
+        }
+        room.clear();
+        if room.extend_from_slice(&self.rest).is_ok() {
+            self.rest = room;
+        }
     }
 
     /// Takes a piece as far as the end of the chunk. It fails for memory alone, and then nothing changed.

@@ -205,13 +205,6 @@ joins_then old xs mid ys new h g f = (
 pub joins_none : (old : List Fact) → Joins old [] old
 joins_none old f = (λ h. inl h, λ h. elim h [ inl there ↦ there | inr none ↦ absurd (none_in f none) ])
 
--- a fact more on both sides
-pub same_more : (done now new : List Fact) (k : Fact) → HasSame done now → Joins now (k ∷ []) new → HasSame (done ++ k ∷ []) new
-same_more done now new k same joins f = (
-  λ h. elim ((joins f).0 h) [ inl before ↦ Contains-append_left done (k ∷ []) f ((same f).0 before) | inr one ↦ Contains-append_right done (k ∷ []) f one ],
-  λ h. elim (Contains-append_cases done (k ∷ []) f h) [ inl before ↦ (joins f).1 (inl ((same f).1 before)) | inr one ↦ (joins f).1 (inr one) ],
-)
-
 -- what joined some facts to others did so to the same ones
 pub joins_same : (old more new other : List Fact) → Joins old more new → HasSame new other → Joins old more other
 joins_same old more new other joins same f = (λ h. (joins f).0 ((same f).0 h), λ h. (same f).1 ((joins f).1 h))

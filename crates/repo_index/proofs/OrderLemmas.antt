@@ -1,5 +1,5 @@
 -- The orders of places and of facts.
-use Rattle.std.proofs.Common.{◌≡◌, ◌≤◌, ◌<◌, ◌∷◌, [], ℕ, zero, suc, List, length, false, refl, ap, sym, subst, arith, slice_index}
+use Rattle.std.proofs.Common.{◌≡◌, ◌≤◌, ◌<◌, ◌∷◌, [], ℕ, zero, suc, List, length, false, refl, ap, subst, arith, slice_index}
 use Rattle.std.proofs.lemmas.Cmp.{ranked, tied_itself}
 use Rattle.std.proofs.lemmas.Map.Lookups.{CmpEqualImpliesEq, exact_unsigned, exact_bytes}
 use Rattle.std.specs.Ordering.{nat_cmp, ordering_then, ordering_reverse, is_gt}
@@ -10,11 +10,8 @@ use Rattle.std.specs.declared.cmp.Ordering.TheVariants.{Less, Equal, Greater}
 use Rattle.std.specs.BTreeMap.Range.{IsLeBy}
 use Rattle.repo_name.specs.Naming.{name_cmp, IsName}
 use Rattle.repo_name.specs.declared.names.Name.{Name}
-use Rattle.repo_name.specs.declared.kinds.BlobKind.{BlobKind}
 use Rattle.repo_name.specs.declared.kinds.BlobKind.TheVariants.{Content, Tree}
-use Rattle.repo_pack.specs.declared.places.Place.{Place}
-use Rattle.repo_index.specs.Order.{place_cmp, kind_cmp, place_first, name_first, IsAtMost, names_total}
-use Rattle.repo_index.specs.inner.Bounds.{IsBeforePack, IsAfterPack}
+use Rattle.repo_index.specs.Order.{place_cmp, kind_cmp, place_first, name_first}
 
 -- ---- one order, then another
 
@@ -27,11 +24,6 @@ then_equal : (a b : Ordering) → ordering_then a b ≡ Equal → (a ≡ Equal) 
 then_equal Less b h = cc
 then_equal Equal b h = (refl, h)
 then_equal Greater b h = cc
-
-pub then_assoc : (a b c : Ordering) → ordering_then (ordering_then a b) c ≡ ordering_then a (ordering_then b c)
-then_assoc Less b c = refl
-then_assoc Equal b c = refl
-then_assoc Greater b c = refl
 
 -- what is neither after nor before is equal
 pub between : (a b s t : Ordering) → b ≡ ordering_reverse a → is_gt (ordering_then a s) ≡ false → is_gt (ordering_then b t) ≡ false
@@ -109,11 +101,6 @@ name_from_zeros n is = subst (λ (k : ℕ). is_gt (slice_cmp nat_cmp (copies k 0
 pub name_to_greatest : (n : Name) → IsName n → IsLeBy name_cmp n (record { 0 = copies 32 255 })
 name_to_greatest n is = subst (λ (k : ℕ). is_gt (slice_cmp nat_cmp n.0 (copies k 255)) ≡ false) is.0 (greatest_le n.0 is.1)
 
-pub place_le : (a b : Place) → IsLeBy name_cmp a.pack b.pack → a.offset ≤ b.offset → a.length ≤ b.length → IsAtMost a b
-place_le a b packs offsets lengths =
-    then_le (name_cmp a.pack b.pack) (ordering_then (nat_cmp a.offset b.offset) (nat_cmp a.length b.length)) packs
-    (then_le (nat_cmp a.offset b.offset) (nat_cmp a.length b.length) (nat_le a.offset b.offset offsets) (nat_le a.length b.length lengths))
-
 copies_byte : (n i x : ℕ) → x < 256 → slice_index (copies n x) i < 256
 copies_byte zero i x h = omega arith
 copies_byte (suc n) zero x h = h
@@ -131,35 +118,3 @@ pub same_le : {K : Type 0} {R : K → K → Ordering} → IsTotalOrder R → (a 
 same_le {K} {R} o a b same =
     let e : R a b ≡ Equal = subst (λ (x : K). R a x ≡ Equal) same (tied_itself o a) in
     rw e refl
-
--- ---- facts of a pack
-
-kind_from_content : (k : BlobKind) → is_gt (kind_cmp Content k) ≡ false
-kind_from_content Content = refl
-kind_from_content Tree = refl
-
-kind_to_tree : (k : BlobKind) → is_gt (kind_cmp k Tree) ≡ false
-kind_to_tree Content = refl
-kind_to_tree Tree = refl
-
-pub before_pack : (pack least : Name) → ((other : Name) → IsName other → IsLeBy name_cmp least other)
-    → IsBeforePack pack (record { kind = Content; name = least; place = record { pack = pack; offset = 0; length = 0 } })
-before_pack pack least h = record {
-  pack_is = refl;
-  before = λ other is same. then_le (place_cmp (record { pack = pack; offset = 0; length = 0 }) other.place)
-      (ordering_then (kind_cmp Content other.kind) (name_cmp least other.name))
-      (place_le (record { pack = pack; offset = 0; length = 0 }) other.place (same_le names_total pack other.place.pack (sym same)) (omega arith) (omega arith))
-      (then_le (kind_cmp Content other.kind) (name_cmp least other.name) (kind_from_content other.kind) (h other.name is.name));
-}
-
-pub after_pack : (pack greatest : Name) → IsName pack → IsName greatest → ((other : Name) → IsName other → IsLeBy name_cmp other greatest)
-    → IsAfterPack pack (record { kind = Tree; name = greatest; place = record { pack = pack; offset = 4294967295; length = 4294967295 } })
-after_pack pack greatest named is h = record {
-  pack_is = refl;
-  after = λ other fact same. then_le (place_cmp other.place (record { pack = pack; offset = 4294967295; length = 4294967295 }))
-      (ordering_then (kind_cmp other.kind Tree) (name_cmp other.name greatest))
-      (place_le other.place (record { pack = pack; offset = 4294967295; length = 4294967295 }) (same_le names_total other.place.pack pack same)
-      (omega (arith, fact.place.offset)) (omega (arith, fact.place.length)))
-      (then_le (kind_cmp other.kind Tree) (name_cmp other.name greatest) (kind_to_tree other.kind) (h other.name fact.name));
-  made = record { name = is; place = record { pack = named; offset = omega arith; length = omega arith } };
-}

@@ -1,122 +1,35 @@
 -- A pack's facts, and the packs of facts.
-use Rattle.std.proofs.Common.{◌≡◌, ◌-◌, ◌&&◌, ◌⊎◌, ◌++◌, ◌∷◌, [], ℕ, suc, List, length, append_assoc, Bool, true, false, not, cond, Some, refl, ap, sym, ◌∙◌, subst, inl, inr, Contains, arith}
+use Rattle.std.proofs.Common.{◌≡◌, ◌<◌, ◌≤◌, ◌+◌, ◌-◌, ◌⊎◌, ◌++◌, ◌∷◌, [], ℕ, zero, suc, List, length, take, drop, get_or, Bool, true, false, Some, refl, ap, sym, ◌∙◌, subst, inl, inr, Contains, arith}
 use Rattle.std.specs.Prelude.{slice_get}
-use Rattle.std.specs.List.{filter, AllByRecursion}
-use Rattle.std.specs.List.Sorted.{IsStrictlySortedBy}
-use Rattle.std.proofs.lemmas.Bool.{and_parts}
-use Rattle.std.proofs.lemmas.List.Elements.{All-contains, All-filter, All-contains_itself, filter_passes, Contains-append_left, Contains-append_right, Contains-push, Contains-push_cases}
-use Rattle.std.proofs.lemmas.List.Kept.{IsStrictlySortedBy-filter}
+use Rattle.std.specs.Cmp.{eq_by_cmp_equiv}
+use Rattle.std.specs.List.{AllByRecursion, AllWithin, dedup}
+use Rattle.std.specs.List.Sorted.{IsStrictlySortedBy, IsSorted, IsPermutation, IsPartitionedBy, IsPartitionPoint}
+use Rattle.std.proofs.lemmas.Bool.{cases_lt}
+use Rattle.std.proofs.lemmas.Cmp.{tied_itself}
+use Rattle.std.proofs.lemmas.List.{take_more, take-append-drop, length-take-le, length-drop, get_or-take, get_or-drop}
+use Rattle.repo_json.proofs.ListingLemmas.{drop_here}
+use Rattle.std.proofs.lemmas.List.Elements.{Contains-append_left, Contains-append_right, Contains-append_cases, Contains-get_or, Contains-push, Contains-push_cases}
+use Rattle.std.proofs.lemmas.List.Kept.{IsStrictlySortedBy-dedup, Contains-dedup, Contains-from_dedup}
+use Rattle.std.proofs.lemmas.List.Sorted.{Contains-permutation, IsPermutation-sym}
 use Rattle.std.proofs.lemmas.Map.Keys.{sorted_head, sorted_tail}
-use Rattle.std.specs.Ordering.{nat_cmp, ordering_then, ordering_reverse, is_gt, is_lt, is_le}
+use Rattle.std.specs.Ordering.{nat_cmp, ordering_then, ordering_reverse, eq_by_cmp, is_eq, is_gt, is_lt, is_le}
 use Rattle.std.specs.declared.cmp.Ordering.{Ordering}
 use Rattle.std.specs.declared.cmp.Ordering.TheVariants.{Less, Equal, Greater}
-use Rattle.std.specs.declared.ops.Bound.TheVariants.{Included}
-use Rattle.std.specs.BTreeMap.Range.{IsLeBy, range_contains}
-use Rattle.std.specs.BTreeSet.{BTreeSet, keys_between, IsOrdered}
 use Rattle.repo_name.proofs.Containing.{none_contained, first_contained, later_contained, contained_or}
 use Rattle.repo_name.specs.Naming.{name_cmp}
 use Rattle.repo_name.specs.declared.names.Name.{Name}
-use Rattle.repo_index.specs.IndexText.{IsFact}
 use Rattle.repo_index.specs.Order.{kind_cmp, place_first, names_total, place_first_total}
-use Rattle.repo_index.specs.inner.Bounds.{IsBeforePack, IsAfterPack}
-use Rattle.repo_index.specs.Lookups.{AreFacts, EndsWith, AreFactsOf, ArePacksOf, HasSame}
+use Rattle.repo_index.specs.Lookups.{EndsWith, AreFactsOf, ArePacksOf, HasSame}
 use Rattle.repo_index.specs.declared.facts.Fact.{Fact}
-use Rattle.repo_index.proofs.OrderLemmas.{then_assoc, between, names_exact}
+use Rattle.repo_index.proofs.OrderLemmas.{names_exact, place_first_exact, same_le}
 
 -- ---- members of lists
 
 only : {X : Type 0} (x y : X) → Contains (x ∷ []) y → x ≡ y
 only x y h = elim (contained_or x [] y h) [ inl same ↦ same | inr none ↦ absurd (none_contained y none) ]
 
-filtered : {X : Type 0} (p : X → Bool) (xs : List X) (y : X) → Contains (filter p xs) y → Contains xs y
-filtered p xs y h = All-contains (Contains xs) (filter p xs) y (All-filter p (Contains xs) xs (All-contains_itself xs)) h
+-- ---- those of the same facts
 
-passes : {X : Type 0} (p : X → Bool) (xs : List X) (y : X) → Contains (filter p xs) y → p y ≡ true
-passes p xs y h = All-contains (λ x. p x ≡ true) (filter p xs) y (filter_passes p xs) h
-
-kept : {X : Type 0} (p : X → Bool) (xs : List X) (y : X) → Contains xs y → p y ≡ true → Contains (filter p xs) y
-kept p [] y h passed = h
-kept {X} p (x ∷ xs) y h passed = elim (contained_or x xs y h) [
-  | inl same ↦
-      let e : p x ≡ true = ap p same ∙ passed in
-      subst (λ (b : Bool). Contains (cond b (x ∷ filter p xs) (filter p xs)) y) (sym e) (subst (Contains (x ∷ filter p xs)) same (first_contained x (filter p xs)))
-  | inr rest ↦ more x (p x) y (kept p xs y rest passed)
-]
-  where
-    more : (x : X) (b : Bool) (y : X) → Contains (filter p xs) y → Contains (cond b (x ∷ filter p xs) (filter p xs)) y
-    more x true y h = later_contained x (filter p xs) y h
-    more x false y h = h
-
--- ---- a pack's facts
-
-le_not_gt : (o : Ordering) → is_le o ≡ true → is_gt o ≡ false
-le_not_gt Less h = refl
-le_not_gt Equal h = refl
-le_not_gt Greater h = cc h
-
-not_gt_le : (o : Ordering) → is_gt o ≡ false → is_le o ≡ true
-not_gt_le Less h = refl
-not_gt_le Equal h = refl
-not_gt_le Greater h = cc h
-
-back_not_gt : (o b : Ordering) → b ≡ ordering_reverse o → not (is_lt o) ≡ true → is_gt b ≡ false
-back_not_gt Less b e h = cc h
-back_not_gt Equal b e h = ap is_gt e
-back_not_gt Greater b e h = ap is_gt e
-
-back_not_lt : (o b : Ordering) → b ≡ ordering_reverse o → is_gt o ≡ false → not (is_lt b) ≡ true
-back_not_lt Less b e h = ap (λ (x : Ordering). not (is_lt x)) e
-back_not_lt Equal b e h = ap (λ (x : Ordering). not (is_lt x)) e
-back_not_lt Greater b e h = cc h
-
-both_true : (a b : Bool) → a ≡ true → b ≡ true → (a && b) ≡ true
-both_true true b h g = g
-both_true false b h g = h
-
--- what stands between the bounds of a pack is of the pack
-of_pack : (pack : Name) (lo hi f : Fact) → IsBeforePack pack lo → IsAfterPack pack hi → range_contains place_first (Included lo) (Included hi) f ≡ true
-    → f.place.pack ≡ pack
-of_pack pack lo hi f low high h =
-    let parts = and_parts (is_le (place_first lo f)) (not (is_lt (place_first hi f))) h in
-    let below = le_not_gt (place_first lo f) parts.0 in
-    let above = back_not_gt (place_first hi f) (place_first f hi) (place_first_total.antisymm f hi) parts.1 in
-    let a = name_cmp lo.place.pack f.place.pack in
-    let b = name_cmp f.place.pack hi.place.pack in
-    let s = ordering_then (nat_cmp lo.place.offset f.place.offset) (nat_cmp lo.place.length f.place.length) in
-    let t = ordering_then (nat_cmp f.place.offset hi.place.offset) (nat_cmp f.place.length hi.place.length) in
-    let u = ordering_then (kind_cmp lo.kind f.kind) (name_cmp lo.name f.name) in
-    let v = ordering_then (kind_cmp f.kind hi.kind) (name_cmp f.name hi.name) in
-    let back : b ≡ ordering_reverse a = ap (name_cmp f.place.pack) (high.pack_is ∙ sym low.pack_is) ∙ names_total.antisymm f.place.pack lo.place.pack in
-    let equal = between a b (ordering_then s u) (ordering_then t v) back
-    (subst (λ (o : Ordering). is_gt o ≡ false) (then_assoc a s u) below) (subst (λ (o : Ordering). is_gt o ≡ false) (then_assoc b t v) above) in
-    sym (names_exact lo.place.pack f.place.pack equal.0) ∙ low.pack_is
-
--- and each fact of the pack stands there
-in_pack : (pack : Name) (lo hi f : Fact) → IsBeforePack pack lo → IsAfterPack pack hi → IsFact f → f.place.pack ≡ pack
-    → range_contains place_first (Included lo) (Included hi) f ≡ true
-in_pack pack lo hi f low high is same =
-    both_true (is_le (place_first lo f)) (not (is_lt (place_first hi f))) (not_gt_le (place_first lo f) (low.before f is same))
-    (back_not_lt (place_first f hi) (place_first hi f) (place_first_total.antisymm hi f) (high.after f is same))
-
--- the bounds stand in order
-pub pack_forward : (pack : Name) (lo hi : Fact) → IsBeforePack pack lo → IsAfterPack pack hi → IsLeBy place_first lo hi
-pack_forward pack lo hi low high = low.before hi high.made high.pack_is
-
--- what stands between the bounds of a pack are its facts
-pub facts_are : (p : BTreeSet Fact) (pack : Name) (lo hi : Fact) (r : List Fact) → AreFacts p.keys → IsBeforePack pack lo → IsAfterPack pack hi
-    → r ≡ keys_between place_first (Included lo) (Included hi) p → IsOrdered place_first p → AreFactsOf p.keys pack r
-facts_are p pack lo hi r made low high is ordered =
-    let within = range_contains place_first (Included lo) (Included hi) in
-    let P : List Fact → Type 0 = AreFactsOf p.keys pack in
-    subst P (sym is) (record {
-      each = λ f. (
-        λ h. (filtered within p.keys f h, of_pack pack lo hi f low high (passes within p.keys f h)),
-        λ h. kept within p.keys f h.0 (in_pack pack lo hi f low high (made f h.0) h.1),
-      );
-      ascend = IsStrictlySortedBy-filter place_first within p.keys ordered;
-    })
-
--- those of the same facts
 pub same_facts_of : (facts same : List Fact) (pack : Name) (own : List Fact) → HasSame facts same → AreFactsOf same pack own → AreFactsOf facts pack own
 same_facts_of facts same pack own are of = record {
   each = λ f. (λ h. (let is = (of.each f).0 h in ((are f).0 is.0, is.1)), λ h. (of.each f).1 ((are f).1 h.0, h.1));
@@ -130,6 +43,10 @@ same_packs_of facts same packs are of = record {
 }
 
 -- ---- the packs of facts
+
+less_left : {K : Type 0} (P : K → Type 0) (xs ys : List K) → AllByRecursion P (xs ++ ys) → AllByRecursion P xs
+less_left P [] ys h = tt
+less_left P (x ∷ xs) ys h = (h.0, less_left P xs ys h.1)
 
 less_push : {K : Type 0} (P : K → Type 0) (ys : List K) (k : K) → AllByRecursion P ys → P k → AllByRecursion P (ys ++ k ∷ [])
 less_push P [] k h g = (g, tt)
@@ -219,7 +136,7 @@ among (y ∷ ys) pack h =
     last_in y ys pack (subst (λ (n : ℕ). slice_get (y ∷ ys) n ≡ Some pack) size h)
 
 -- a fact of the last pack more
-pub packs_same : (done : List Fact) (k : Fact) (packs : List Name) → ArePacksOf done packs → EndsWith packs k.place.pack → ArePacksOf (done ++ k ∷ []) packs
+packs_same : (done : List Fact) (k : Fact) (packs : List Name) → ArePacksOf done packs → EndsWith packs k.place.pack → ArePacksOf (done ++ k ∷ []) packs
 packs_same done k packs are ends = record {
   each = λ p. (
     λ h. let f = (are.each p).0 h in (f.0, Contains-append_left done (k ∷ []) f.0 f.1, f.2),
@@ -232,7 +149,7 @@ packs_same done k packs are ends = record {
 }
 
 -- a fact of another pack more
-pub packs_more : (done : List Fact) (k : Fact) (rest : List Fact) (packs : List Name) → IsStrictlySortedBy place_first (done ++ k ∷ rest) → ArePacksOf done packs
+packs_more : (done : List Fact) (k : Fact) (rest : List Fact) (packs : List Name) → IsStrictlySortedBy place_first (done ++ k ∷ rest) → ArePacksOf done packs
     → (EndsWith packs k.place.pack → ⊥) → ArePacksOf (done ++ k ∷ []) (packs ++ k.place.pack ∷ [])
 packs_more done k rest packs sorted are other =
     let before = before_next done k rest packs sorted are in
@@ -261,10 +178,150 @@ none_sorted = tt
 pub packs_none : ArePacksOf [] []
 packs_none = record { each = λ p. (λ h. absurd (none_contained p h), λ h. absurd (none_contained h.0 h.1)); ascend = none_sorted }
 
--- what is left begins with the next fact
-pub next_fact : (all done rest new : List Fact) (k : Fact) → all ≡ done ++ rest → rest ≡ k ∷ new → all ≡ (done ++ k ∷ []) ++ new
-next_fact all done rest new k e f = e ∙ ap (λ fs. done ++ fs) f ∙ sym (append_assoc done (k ∷ []) new)
+-- ---- a loop over facts in order
 
-pub sorted_there : (p : BTreeSet Fact) (all done rest new : List Fact) (k : Fact) → IsOrdered place_first p → all ≡ p.keys → all ≡ done ++ rest → rest ≡ k ∷ new
-    → IsStrictlySortedBy place_first (done ++ k ∷ new)
-sorted_there p all done rest new k ordered is e f = subst (IsStrictlySortedBy place_first) (sym is ∙ e ∙ ap (λ fs. done ++ fs) f) ordered
+take_here : (facts : List Fact) (i : ℕ) (f : Fact) → i < length facts → f ≡ get_or facts i f → take (i + 1) facts ≡ take i facts ++ f ∷ []
+take_here facts i f lt at = take_more facts i f lt ∙ ap (λ (g : Fact). take i facts ++ g ∷ []) (sym at)
+
+pub packs_passed : (facts : List Fact) (i : ℕ) (f : Fact) (packs : List Name) → i < length facts → f ≡ get_or facts i f → ArePacksOf (take i facts) packs
+    → EndsWith packs f.place.pack → ArePacksOf (take (i + 1) facts) packs
+packs_passed facts i f packs lt at are ends =
+    subst (λ (fs : List Fact). ArePacksOf fs packs) (sym (take_here facts i f lt at)) (packs_same (take i facts) f packs are ends)
+
+pub packs_added : (facts : List Fact) (i : ℕ) (f : Fact) (packs : List Name) → i < length facts → f ≡ get_or facts i f → IsStrictlySortedBy place_first facts
+    → ArePacksOf (take i facts) packs → (EndsWith packs f.place.pack → ⊥) → ArePacksOf (take (i + 1) facts) (packs ++ f.place.pack ∷ [])
+packs_added facts i f packs lt at sorted are other =
+    let parts : take i facts ++ f ∷ drop (i + 1) facts ≡ facts = ap (λ (fs : List Fact). take i facts ++ fs) (sym (drop_here facts i f lt at)) ∙ take-append-drop i facts in
+    let there = subst (IsStrictlySortedBy place_first) (sym parts) sorted in
+    subst (λ (fs : List Fact). ArePacksOf fs (packs ++ f.place.pack ∷ [])) (sym (take_here facts i f lt at))
+    (packs_more (take i facts) f (drop (i + 1) facts) packs there are other)
+
+-- ---- a pack's facts
+
+sorted_left : {K : Type 0} (c : K → K → Ordering) (xs ys : List K) → IsStrictlySortedBy c (xs ++ ys) → IsStrictlySortedBy c xs
+unfolding IsStrictlySortedBy
+sorted_left c [] ys h = tt
+sorted_left {K} c (x ∷ xs) ys h = (less_left (λ (y : K). c x y ≡ Less) xs ys h.0, sorted_left c xs ys h.1)
+
+sorted_right : {K : Type 0} (c : K → K → Ordering) (xs ys : List K) → IsStrictlySortedBy c (xs ++ ys) → IsStrictlySortedBy c ys
+sorted_right c [] ys h = h
+sorted_right c (x ∷ xs) ys h = sorted_right c xs ys (sorted_tail c x (xs ++ ys) h)
+
+-- of two places in a list in order the first has less
+less_at : {K : Type 0} (c : K → K → Ordering) (xs : List K) (i j : ℕ) (d : K) → IsStrictlySortedBy c xs → i < j → j < length xs → c (get_or xs i d) (get_or xs j d) ≡ Less
+less_at c [] i j d h lt within = absurd (omega (arith, within))
+less_at c (x ∷ xs) i zero d h lt within = absurd (omega (arith, lt))
+less_at {K} c (x ∷ xs) zero (suc j) d h lt within =
+    less_in (λ (y : K). c x y ≡ Less) xs (get_or xs j d) (sorted_head c x xs h) (Contains-get_or xs j d (omega (arith, within)))
+less_at c (x ∷ xs) (suc i) (suc j) d h lt within = less_at c xs i j d (sorted_tail c x xs h) (omega (arith, lt)) (omega (arith, within))
+
+-- the packs of facts in order don't fall
+packs_rise : (facts : List Fact) (i j : ℕ) (d : Fact) → IsStrictlySortedBy place_first facts → i ≤ j → j < length facts
+    → is_gt (name_cmp (get_or facts i d).place.pack (get_or facts j d).place.pack) ≡ false
+packs_rise facts i j d sorted le within = elim (cases_lt i j) [
+  | inl lt ↦
+      let a = get_or facts i d in
+      let b = get_or facts j d in
+      pack_le (name_cmp a.place.pack b.place.pack) (ordering_then (nat_cmp a.place.offset b.place.offset) (nat_cmp a.place.length b.place.length))
+      (ordering_then (kind_cmp a.kind b.kind) (name_cmp a.name b.name)) (less_at place_first facts i j d sorted lt within)
+  | inr ge ↦
+      let same : i ≡ j = omega (arith, le, ge) in
+      same_le names_total (get_or facts i d).place.pack (get_or facts j d).place.pack (ap (λ (n : ℕ). (get_or facts n d).place.pack) same)
+]
+
+-- a test that the less pass and the greater don't, the names before one that passes pass too
+passes_before : (test : Ordering → Bool) (a b pack : Name) → test Less ≡ true → test Greater ≡ false → is_gt (name_cmp a b) ≡ false
+    → test (name_cmp b pack) ≡ true → test (name_cmp a pack) ≡ true
+passes_before test a b pack low high le h = elim (less_or_equal (name_cmp a b) le) [
+  | inr equal ↦ subst (λ (n : Name). test (name_cmp n pack) ≡ true) (sym (names_exact a b equal)) h
+  | inl less ↦ ap test (less_then a b pack less (name_cmp b pack) refl (λ gt. let e : true ≡ false = sym h ∙ ap test gt ∙ high in cc e)) ∙ low
+]
+  where
+    less_then : (a b pack : Name) → name_cmp a b ≡ Less → (o : Ordering) → name_cmp b pack ≡ o → (o ≡ Greater → ⊥) → name_cmp a pack ≡ Less
+    less_then a b pack less Less is after = names_total.trans a b pack less is
+    less_then a b pack less Equal is after = subst (λ (n : Name). name_cmp a n ≡ Less) (names_exact b pack is) less
+    less_then a b pack less Greater is after = absurd (after refl)
+
+-- so such a test of the pack parts facts in order
+pub packs_parted : (test : Ordering → Bool) (pack : Name) (facts : List Fact) → test Less ≡ true → test Greater ≡ false → IsStrictlySortedBy place_first facts
+    → IsPartitionedBy (λ (f : Fact). test (name_cmp f.place.pack pack)) facts
+packs_parted test pack facts low high sorted i j d le within h =
+    passes_before test (get_or facts i d).place.pack (get_or facts j d).place.pack pack low high (packs_rise facts i j d sorted le within) h
+
+front_all : {K : Type 0} (P : K → Type 0) (xs : List K) (i : ℕ) (x : K) → i ≤ length xs → AllWithin P xs 0 i → Contains (take i xs) x → P x
+front_all P xs i x le all h =
+    let lt : h.0 < i = subst (λ (n : ℕ). h.0 < n) (length-take-le i xs le) h.1 in
+    subst P (sym (get_or-take i xs h.0 x lt) ∙ h.2) (all h.0 x (omega arith) lt)
+
+back_all : {K : Type 0} (P : K → Type 0) (xs : List K) (i : ℕ) (x : K) → i ≤ length xs → AllWithin P xs i (length xs) → Contains (drop i xs) x → P x
+back_all P xs i x le all h =
+    let long : length (drop i xs) ≡ length xs - i = length-drop i xs in
+    subst P (sym (get_or-drop i xs h.0 x) ∙ h.2) (all (i + h.0) x (omega arith) (omega (arith, h.1, long, le)))
+
+-- neither before nor after
+equal_of : (o : Ordering) → is_lt o ≡ false → is_le o ≡ true → o ≡ Equal
+equal_of Less h g = cc h
+equal_of Equal h g = refl
+equal_of Greater h g = cc g
+
+-- what is left of facts in order is in order
+pub rest_sorted : (facts rest : List Fact) (start : ℕ) → rest ≡ drop start facts → IsStrictlySortedBy place_first facts → IsStrictlySortedBy place_first rest
+rest_sorted facts rest start is sorted =
+    subst (IsStrictlySortedBy place_first) (sym is)
+    (sorted_right place_first (take start facts) (drop start facts) (subst (IsStrictlySortedBy place_first) (sym (take-append-drop start facts)) sorted))
+
+-- the run of a pack's facts begins where those of the packs before it end, and ends where those of the packs after it begin
+pub run_is : (facts rest : List Fact) (pack : Name) (start count : ℕ) → IsStrictlySortedBy place_first facts → rest ≡ drop start facts → start ≤ length facts → count ≤ length rest
+    → IsPartitionPoint (λ (f : Fact). is_lt (name_cmp f.place.pack pack) ≡ true) (λ (f : Fact). is_lt (name_cmp f.place.pack pack) ≡ false) facts start
+    → IsPartitionPoint (λ (f : Fact). is_le (name_cmp f.place.pack pack) ≡ true) (λ (f : Fact). is_le (name_cmp f.place.pack pack) ≡ false) rest count
+    → AreFactsOf facts pack (take count rest)
+run_is facts rest pack start count sorted is le short point end =
+    let before = take start facts in
+    let run = take count rest in
+    let after = drop count rest in
+    let whole : before ++ rest ≡ facts = ap (λ (fs : List Fact). before ++ fs) is ∙ take-append-drop start facts in
+    let halves : run ++ after ≡ rest = take-append-drop count rest in
+    record {
+      each = λ f. (
+        λ h.
+            let there : Contains rest f = subst (λ (fs : List Fact). Contains fs f) halves (Contains-append_left run after f h) in
+            let low = back_all (λ (g : Fact). is_lt (name_cmp g.place.pack pack) ≡ false) facts start f le point.1 (subst (λ (fs : List Fact). Contains fs f) is there) in
+            let high = front_all (λ (g : Fact). is_le (name_cmp g.place.pack pack) ≡ true) rest count f short end.0 h in (
+              subst (λ (fs : List Fact). Contains fs f) whole (Contains-append_right before rest f there),
+              names_exact f.place.pack pack (equal_of (name_cmp f.place.pack pack) low high),
+            ),
+        λ h.
+            let tied : name_cmp f.place.pack pack ≡ Equal = subst (λ (n : Name). name_cmp f.place.pack n ≡ Equal) h.1 (tied_itself names_total f.place.pack) in
+            elim (Contains-append_cases before rest f (subst (λ (fs : List Fact). Contains fs f) (sym whole) h.0)) [
+              | inl early ↦
+                  let e : false ≡ true = sym (ap is_lt tied) ∙ front_all (λ (g : Fact). is_lt (name_cmp g.place.pack pack) ≡ true) facts start f le point.0 early in
+                  cc e
+              | inr there ↦ elim (Contains-append_cases run after f (subst (λ (fs : List Fact). Contains fs f) (sym halves) there)) [
+                | inl own ↦ own
+                | inr late ↦
+                    let e : true ≡ false = sym (ap is_le tied) ∙ back_all (λ (g : Fact). is_le (name_cmp g.place.pack pack) ≡ false) rest count f short end.1 late in
+                    cc e
+              ]
+            ],
+      );
+      ascend = sorted_left place_first run after (subst (IsStrictlySortedBy place_first) (sym halves) (rest_sorted facts rest start is sorted));
+    }
+
+-- ---- facts, sorted, each once
+
+sorted_equal : (a b : Fact) → eq_by_cmp place_first a b ≡ true → a ≡ b
+sorted_equal a b h = place_first_exact a b (is_equal (place_first a b) h)
+  where
+    is_equal : (o : Ordering) → is_eq o ≡ true → o ≡ Equal
+    is_equal Less h = cc h
+    is_equal Equal h = refl
+    is_equal Greater h = cc h
+
+pub once_same : (facts sorted : List Fact) → IsPermutation facts sorted → HasSame facts (dedup (eq_by_cmp place_first) sorted)
+once_same facts sorted same f = (
+  λ h. Contains-permutation sorted facts f (IsPermutation-sym facts sorted same) (Contains-from_dedup (eq_by_cmp place_first) sorted f h),
+  λ h. Contains-dedup (eq_by_cmp_equiv place_first_total) sorted_equal sorted f (Contains-permutation facts sorted f same h),
+)
+
+pub once_sorted : (sorted : List Fact) → IsSorted place_first sorted → IsStrictlySortedBy place_first (dedup (eq_by_cmp place_first) sorted)
+once_sorted sorted h = IsStrictlySortedBy-dedup place_first_total (λ a b. refl) sorted h

@@ -1,4 +1,4 @@
-//! The least and the greatest facts of a pack, and of a kind and name.
+//! The least and the greatest facts of a kind and name.
 
 ghost use Rattle.std.specs.Prelude.{◌≡◌};
 ghost use Rattle.std.specs.BTreeMap.Range.{IsLeBy};
@@ -7,10 +7,10 @@ ghost use Rattle.repo_name.specs.declared.names.Name.{Name};
 ghost use Rattle.repo_pack.specs.declared.places.Place.{Place};
 ghost use Rattle.repo_index.specs.IndexText.{IsPlace};
 ghost use Rattle.repo_index.specs.Order.{IsAtMost};
-ghost use Rattle.repo_index.specs.inner.Bounds.{IsBeforePair, IsAfterPair, IsBeforePack, IsAfterPack};
+ghost use Rattle.repo_index.specs.inner.Bounds.{IsBeforePair, IsAfterPair};
 
 use crate::facts::Fact;
-use crate::keys::{ByName, ByPlace};
+use crate::keys::ByName;
 use repo_name::{BlobKind, Name};
 use repo_pack::Place;
 
@@ -66,30 +66,4 @@ pub(crate) fn greatest_of_pair(kind: BlobKind, name: Name) -> ByName
 {
     let place = greatest_place();
     ByName::of(Fact { kind, name, place })
-}
-
-/// The least key of a pack.
-pub(crate) fn least_of_pack(pack: Name) -> ByPlace
-    ensures { IsBeforePack pack result }
-{
-    let place = Place {
-        pack,
-        offset: 0,
-        length: 0,
-    };
-    let (kind, name) = (BlobKind::Content, least_name());
-    ByPlace::of(Fact { kind, name, place })
-}
-
-/// The greatest key of a pack.
-pub(crate) fn greatest_of_pack(pack: Name) -> ByPlace
-    ensures { IsAfterPack pack result }
-{
-    let place = Place {
-        pack,
-        offset: u32::MAX,
-        length: u32::MAX,
-    };
-    let (kind, name) = (BlobKind::Tree, greatest_name());
-    ByPlace::of(Fact { kind, name, place })
 }

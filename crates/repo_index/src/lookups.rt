@@ -9,7 +9,7 @@ ghost use Rattle.repo_index.specs.declared.facts.Fact.{Fact};
 use crate::bounds::{greatest_of_pair, least_of_pair};
 use crate::facts::{Fact, Facts, PackFacts};
 use crate::index_text::IndexText;
-use crate::keys::ByName;
+use crate::keys::{ByName, ByPlace};
 use crate::placed::Placed;
 use repo_name::{BlobKind, Name};
 use repo_pack::Place;
@@ -163,10 +163,11 @@ impl Lookup {
     pub fn placed(&self) -> Result<Placed, AllocError>
         ensures { IfOk result (HasSame self.now) }
     {
-        let mut placed = Placed::new(self.alloc);
-        for key in self.by_name.iter() {
-            placed.add(key.fact())?;
-        }
-        Ok(placed)
+        let facts = self
+            .by_name
+            .iter()
+            .map(|key| ByPlace::of(key.fact()))
+            .collect(self.alloc)?;
+        Ok(Placed::of(self.alloc, facts))
     }
 }

@@ -66,15 +66,28 @@ impl From<Unsealed> for PackError {
 /// How many bytes a pack has beyond its target, at most.
 const BEYOND: usize = PACK_LIMIT - GREATEST_TARGET as usize;
 
-/// Makes room for all that a pack of this target may have, where there is no blob yet: so its bytes are moved no more, and the
-/// memory of one pack is room for the next. It fails for memory alone, and changes no byte.
+/// The room of a pack whose target is above 8,388,608. Above 32 MiB the system's allocator maps memory for what asks, and gives it
+/// back to the system once it is let go. Of that only what is touched counts.
+const MAPPED: usize = 34_603_008;
+
+/// How much memory is asked for a pack of this target.
+fn room_for(target: u32) -> usize {
+    if target as usize > BLOB_LIMIT {
+        MAPPED
+    } else {
+        target as usize + BEYOND
+    }
+}
+
+/// Makes room for all that a pack of this target may have, where there is no blob yet: so its bytes are moved no more, and its
+/// memory is free for others as soon as it was put. It fails for memory alone, and changes no byte.
 fn make_room(blobs: &mut Vec<u8>, target: u32) -> Result<(), AllocError>
     ensures { blobs.new.items ≡ blobs.old.items }
 {
     if !blobs.is_empty() {
         return Ok(());
     }
-    blobs.reserve_exact(target as usize + BEYOND)
+    blobs.reserve_exact(room_for(target))
 }
 
 /// Adds these entries' blobs with their places, for which there is room.

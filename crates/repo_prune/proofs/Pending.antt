@@ -34,14 +34,6 @@ index_pending k (Stage.Moving m) token n x es h = absurd h
 index_pending k (Stage.Relisting r) token n x es h = (r, refl)
 index_pending k (Stage.Deleting d) token n x es h = absurd h
 
-pub put_unwelcome : (token : Token) (kind : Kind) (n : Name) (x : List ℕ) (say : Say) → say ≢ Say.Done → IsUnwelcome (Ask.Put token kind n x) say
-put_unwelcome token kind n x (Say.Token t) other = λ suits. suits
-put_unwelcome token kind n x Say.Done other = absurd (other refl)
-put_unwelcome token kind n x (Say.Names more names) other = λ suits. suits
-put_unwelcome token kind n x (Say.Bytes y) other = λ suits. suits
-put_unwelcome token kind n x (Say.LockList rows) other = λ suits. suits
-put_unwelcome token kind n x (Say.Refused code) other = tt
-
 pub delete_unwelcome : (token : Token) (kind : Kind) (n : Name) (say : Say) → say ≢ Say.Done → IsUnwelcome (Ask.Delete token kind n) say
 delete_unwelcome token kind n (Say.Token t) other = λ suits. suits
 delete_unwelcome token kind n Say.Done other = absurd (other refl)

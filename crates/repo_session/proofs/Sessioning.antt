@@ -540,7 +540,7 @@ pub put_work : (ask : Ask) → IsPut ask → IsWork ask
 put_work ask (token, k, n, x, is) = subst IsWork (sym is) tt
 
 -- any reply to it but that it is done is passed on
-put_unwelcome : (token : Token) (k : Kind) (n : Name) (x : List ℕ) (say : Say) → say ≢ Say.Done → IsUnwelcome (Ask.Put token k n x) say
+pub put_unwelcome : (token : Token) (k : Kind) (n : Name) (x : List ℕ) (say : Say) → say ≢ Say.Done → IsUnwelcome (Ask.Put token k n x) say
 put_unwelcome token k n x (Say.Refused code) other = tt
 put_unwelcome token k n x (Say.Token t) other = λ suits. suits
 put_unwelcome token k n x Say.Done other = absurd (other refl)

@@ -31,14 +31,15 @@ returns-then-is_some-clause-ok c = λ w unended unlaid.
     let chunk = chunk_bytes k.chunk in
     let is : rest ≡ drop taken piece = c.split_at.ensures.back in
     let some : listed ≢ None = is_listed listed c.if-is_some.ensures in
+    let same = c.reuse.ensures in
     let whole = bites_whole known rest f g p q n listed chunk k.named some e.ok in
     let long : length rest + taken ≡ length piece = omega (arith, ap length is, length-drop taken piece, inv.within) in (
       omega (arith, long, e.count.1),
       (λ any. omega (arith, e.count.0)),
       (λ none. absurd (some none)),
-      (λ any. (whole.0, c.reuse.ensures ∙ whole.1)),
-      bites_on known piece rest taken n f0 f _ p0 p q chunk k.named listed is inv.within inv.size c.requires.small inv.unsealed inv.grows e.count.0 e.count.1 e.name e.size e.params
-          (bites_as known rest f g _ p q n chunk k.named listed refl refl c.reuse.ensures e.ok) inv.goes w unended unlaid,
+      (λ any. (same.3 ∙ whole.0, c.reuse-then-is_some.ensures ∙ same.5 ∙ whole.1)),
+      bites_on known piece rest taken n f0 f _ p0 p q chunk k.named listed is inv.within inv.size c.requires.small inv.unsealed inv.grows e.count.0 e.count.1 (same.0 ∙ e.name) (same.1 ∙ e.size) (same.4 ∙ e.params)
+          (bites_as known rest f g _ p q n chunk k.named listed same.3 same.2 (c.reuse-then-is_some.ensures ∙ same.5) e.ok) inv.goes w unended unlaid,
     )
 
 pub returns-clause-ok : goal.returns-clause-ok
@@ -46,12 +47,13 @@ returns-clause-ok c = λ w unended unlaid.
     let inv = c.loop-taken.invariant in
     let piece : List ℕ = c.args.piece.now in
     let taken = c.loop-taken.taken in
-    let all : taken ≡ length piece = omega (arith, inv.within, c.loop-taken-test.false) in (
+    let all : taken ≡ length piece = omega (arith, inv.within, c.loop-taken-test.false) in
+    let same = c.reuse-2.ensures in (
       inv.within,
       (λ some. omega (arith, all, some)),
       (λ none. all),
       (λ some. absurd (some refl)),
-      takes_as c.args.lookup.now (take taken piece) w c.args.file.now c.loop-taken.file _ c.args.packing.now c.loop-taken.packing unlaid inv.unsealed inv.grows.1 refl refl refl refl refl c.reuse-2.ensures (inv.goes w unended unlaid),
+      takes_as c.args.lookup.now (take taken piece) w c.args.file.now c.loop-taken.file _ c.args.packing.now c.loop-taken.packing unlaid inv.unsealed inv.grows.1 same.0 same.1 same.2 same.3 same.4 (c.reuse-3.ensures ∙ same.5) (inv.goes w unended unlaid),
     )
 
 pub back-requires : goal.back-requires

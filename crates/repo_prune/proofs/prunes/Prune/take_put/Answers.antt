@@ -4,7 +4,7 @@ use Rattle.repo_wire.specs.declared.messages.Ask.{Ask}
 use Rattle.repo_wire.specs.declared.messages.Say.{Say}
 use Rattle.repo_prune.specs.PruneStates.{StepsFrom}
 use Rattle.repo_prune.specs.Pruning.{PruneMay}
-use Rattle.repo_prune.proofs.Pending.{put_unwelcome}
+use Rattle.repo_session.proofs.Sessioning.{put_unwelcome}
 use Rattle.repo_prune.proofs.prunes.Prune.take_put.Goals.{in_default-via-in-Done+in_default, in_default-via-in_default}
 use Rattle.repo_prune.proofs.prunes.Prune.take_put.Goals as goal
 
