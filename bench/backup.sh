@@ -4,9 +4,9 @@
 #
 # A line has a step and a program; then the program's processor time divided by restic's; then seconds of the clock, and of
 # processors, which are for vault the client's and the server's; the greatest resident set of each, in MiB; and the MiB
-# that the store has afterwards. restic encrypts what it stores, and its compression is off here; borg has neither. Of a second backup
-# restic and borg pass over files whose times haven't changed; "all read" has them read as vault does. A restore of vault's is
-# on the disk when it ends; those of the others needn't be.
+# that the store has afterwards. restic encrypts what it stores, and its compression is off here; borg has neither. `single` is restic
+# on one processor (GOMAXPROCS=1), with a store of its own. Of a second backup restic and borg pass over files whose times haven't
+# changed; "all read" has them read as vault does. A restore of vault's is on the disk when it ends; those of the others needn't be.
 #
 # Usage: bench/backup.sh [MIB [FILES [MIXED]]]. Without words: one file of 512 MiB, 20,000 files of 2 KiB, a tree of 256 MiB.
 # With 64 2000 32 it takes about a minute. VAULT=PATH times that program in place of the one that is built; PROCESSOR is handed to
@@ -22,9 +22,11 @@ vault=$(realpath "$vault")
 work=$(mktemp -d)
 trap 'rm -rf "$work"' EXIT
 export RESTIC_PASSWORD=none RESTIC_CACHE_DIR=$work/cache BORG_BASE_DIR=$work/base BORG_UNKNOWN_UNENCRYPTED_REPO_ACCESS_IS_OK=yes
-programs=(restic vault borg)
+programs=(restic single vault borg)
 restic=${RESTIC:-restic}
 borg=${BORG:-borg}
+
+single=$restic
 
 has() {
     [ "$1" = vault ] || command -v "${!1}" >/dev/null
@@ -64,11 +66,17 @@ run_borg() {
     timed "$work/client" sh -c "cd '$work/again' && '$borg' $1" >"$work/told"
 }
 
+# Runs a command with restic on one processor.
+singly() {
+    GOMAXPROCS=1 RESTIC_REPOSITORY=$work/single RESTIC_CACHE_DIR=$work/cache-single "$@"
+}
+
 # Does a step with a program; `folder` is what is backed up.
 step() {
     local name=$2
     rm -f "$work/server"
     case "$1: $name" in
+    "single: "*) singly step restic "$name" ;;
     "vault: backup" | "vault: again" | "vault: again, all read" | "vault: edited")
         run_vault backup "$address" host "$folder" ;;
     "vault: restore")
@@ -78,7 +86,7 @@ step() {
     "vault: forget and prune") run_vault forget "$address" --keep-last 1 ";" prune "$address" ;;
     "restic: backup" | "restic: again" | "restic: edited") run_restic backup --compression off "$folder" ;;
     "restic: again, all read") run_restic backup --compression off --force "$folder" ;;
-    "restic: restore") run_restic restore latest --target "$work/again/restic" ;;
+    "restic: restore") run_restic restore latest --target "$work/again/${RESTIC_REPOSITORY##*/}" ;;
     "restic: list") run_restic snapshots ;;
     "restic: check") run_restic check --read-data ;;
     "restic: forget and prune") run_restic forget --keep-last 1 --prune --max-unused 0 --compression off ;;
@@ -128,6 +136,7 @@ for kind in large small mixed; do
     export RESTIC_REPOSITORY=$work/restic BORG_REPO=$work/borg
     "$vault" init "$work/store" >"$work/told"
     ! has restic || "$restic" --quiet init >"$work/told"
+    ! has single || singly "$single" --quiet init >"$work/told"
     ! has borg || "$borg" init --encryption none >"$work/told"
     for name in backup again "again, all read" edited restore list check "forget and prune"; do
         [ "$name" != edited ] || "$here/files.py" edit "$folder"
@@ -142,5 +151,5 @@ for kind in large small mixed; do
         done
         [ "$name" != restore ] || diff -r "$folder" "$work/again/vault"
     done
-    rm -rf "$work/store" "$work/restic" "$work/borg" "$work/again" "$work/cache" "$work/base" "$folder"
+    rm -rf "$work/store" "$work/restic" "$work/single" "$work/borg" "$work/again" "$work/cache" "$work/cache-single" "$work/base" "$folder"
 done

@@ -1,16 +1,17 @@
 #!/usr/bin/env python3
 """Makes the table of docs/SPEED.md of what bench/backup.sh printed.
 
-Usage: bench/table.py NAME=FILE [NAME=FILE..]. Each FILE is what one run printed, and NAME what vault was built for.
+Usage: bench/table.py FILE, which is what one run printed.
 
-A row is a step. Of each run it has vault's seconds of processors, client and server together, divided by restic's in that very run,
-and then the two: client + server, and restic's. Behind them, of the first run: borg's seconds of processors, the seconds of the
-clock of each program, and the MiB that vault took at most. A list is left out: it takes vault nothing that the clock shows.
+A row is a step. It has vault's seconds of processors, client and server together, divided by restic's of that very run; then the
+seconds of processors of each program, the seconds of the clock of each, where restic stands a second time, on one processor; and the
+MiB that each took at most. A list is left out: it takes vault nothing that the clock shows.
 """
 import sys
 
-PROGRAMS = ("vault", "restic", "borg")
+PROGRAMS = ("vault", "restic", "single", "borg")
 RATIO, CLOCK, PROCESSORS, MEMORY = range(4)
+HEADS = ("Step", "of restic", "processors: vault", "restic", "borg", "clock: vault", "restic", "on one", "borg", "MiB: vault", "restic", "borg")
 
 
 def steps(path):
@@ -28,22 +29,15 @@ def row(cells):
     print("| " + " | ".join(cells) + " |")
 
 
-def main(arguments):
-    names, paths = zip(*(argument.split("=", 1) for argument in arguments))
-    runs = [steps(path) for path in paths]
-    heads = ["Step"]
-    for name in names:
-        heads += [f"{name}, of restic", f"vault {name}", "restic"]
-    row([*heads, "borg", "clock: vault", "restic", "borg", "MiB: vault"])
-    print("|---" * (len(heads) + 5) + "|")
-    for step, first in runs[0].items():
+def main(path):
+    row(HEADS)
+    print("|---" * len(HEADS) + "|")
+    for step, of in steps(path).items():
         if step.endswith(": list"):
             continue
-        cells = [step]
-        for run in runs:
-            cells += [run[step]["vault"][RATIO], run[step]["vault"][PROCESSORS], run[step]["restic"][PROCESSORS]]
-        cells += [first["borg"][PROCESSORS], *(first[program][CLOCK] for program in PROGRAMS), first["vault"][MEMORY]]
-        row(cells)
+        processors = [of[program][PROCESSORS] for program in ("vault", "restic", "borg")]
+        clock = [of[program][CLOCK] for program in PROGRAMS]
+        row([step, of["vault"][RATIO], *processors, *clock, *(of[program][MEMORY] for program in ("vault", "restic", "borg"))])
 
 
-main(sys.argv[1:])
+main(sys.argv[1])

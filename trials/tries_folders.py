@@ -4,14 +4,16 @@ import hashlib
 import json
 import os
 import random
-import resource
 import shutil
 import socket
 import subprocess
+import time
+from pathlib import Path
 
 from connections import Watched
 from program import TICKET, Server, matches, token, told
 from tries_at_once import PUT, at_first
+from tries_hostile import memory
 from trying import OPTIONS, WAIT, Skipped, holds, is_possible, same, trial
 from yards import SMALL, STORED, Yard, entries, filled, gives_back, in_store, is_clean, restores, stored
 
@@ -167,12 +169,19 @@ def large_files_come_back():
             is_clean(server.address)
 
 
+def most_memory(child):
+    """The most memory that a process takes until it ends, in KiB, as it is seen every hundredth of a second."""
+    status, most, until = Path(f"/proc/{child.pid}/status"), 0, time.monotonic() + WAIT
+    while child.poll() is None and time.monotonic() < until:
+        line = next((it for it in status.read_text().splitlines() if it.startswith("VmHWM:")), "VmHWM: 0")
+        most = max(most, int(line.split()[1]))
+        time.sleep(0.01)
+    return most
+
+
 @trial(is_early=True)
 def a_backup_holds_no_folder_in_memory():
-    """A client that may have 120 MB in all backs up a folder of 340: a file of random bytes, and one of zeros without a block on the disk."""
-    def few():
-        resource.setrlimit(resource.RLIMIT_AS, (120_000_000, 120_000_000))
-
+    """Neither client nor server takes more than 60 MiB for a folder of 340 MB: a file of random bytes, and one of zeros without a block on the disk."""
     with Yard(is_store=True) as yard:
         root, chance = filled(yard.top / "from", {"d/": b""}), random.Random(7)
         (root / "d/random").write_bytes(chance.randbytes(40_000_000))
@@ -180,9 +189,12 @@ def a_backup_holds_no_folder_in_memory():
             zeros.truncate(300_000_000)
         with Server(yard.root, connections=3) as server:
             words = [OPTIONS.program, "backup", server.address, "h", root]
-            run = subprocess.run(words, capture_output=True, text=True, timeout=WAIT, stdin=subprocess.DEVNULL, preexec_fn=few)
-            name, _, sent = matches(f"{run.returncode}|{run.stdout}|{run.stderr}", STORED)
+            with subprocess.Popen(words, stdin=subprocess.DEVNULL, stdout=subprocess.PIPE, stderr=subprocess.PIPE, text=True) as child:
+                most = most_memory(child)
+                name, _, sent = matches(f"{child.returncode}|{child.stdout.read()}|{child.stderr.read()}", STORED)
             holds(40_000_000 < int(sent) < 60_000_000, f"{sent} bytes were sent")
+            for who, taken in (("client", most), ("server", memory(server, "VmHWM:"))):
+                holds(taken < 60 * 1024, f"the {who} had {taken} KiB at most")
             same(told("restore", server.address, name, yard.top / "again"), "0|complete 3\n|")
             is_clean(server.address)
         same(filecmp.cmp(root / "d/random", yard.top / "again/d/random", shallow=False), True)

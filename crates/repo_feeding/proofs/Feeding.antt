@@ -7,7 +7,7 @@ use Rattle.repo_name.specs.declared.tokens.Token.{Token}
 use Rattle.repo_wire.specs.declared.messages.Ask.{Ask}
 use Rattle.repo_wire.specs.declared.messages.Request.{Request}
 use Rattle.repo_wire.specs.declared.messages.Say.{Say}
-use Rattle.repo_session.specs.Ends.{IsCause, before_unlock}
+use Rattle.repo_session.specs.Ends.{AreHeeded, IsCause, before_unlock}
 use Rattle.repo_session.specs.Feeds.{Fed, fed_dir, fed_file, fed_bytes, fed_close, fed_end, fed_abandon}
 use Rattle.repo_session.specs.Order.{Task, locked, opened, IsNoUnlock, IsUnlock, IsWork, IsWorking, Obeys}
 use Rattle.repo_session.specs.Askers.{Asker, Holding}
@@ -18,7 +18,7 @@ use Rattle.repo_session.specs.Versions.{upto}
 use Rattle.repo_session.specs.declared.emissions.Emission.{Emission}
 use Rattle.repo_session.specs.declared.outcomes.End.{End}
 use Rattle.repo_session.specs.declared.outcomes.Outcome.{Outcome}
-use Rattle.repo_session.proofs.Sessioning.{wants_of}
+use Rattle.repo_session.proofs.Sessioning.{put_unwelcome, wants_of}
 use Rattle.repo_backup.specs.declared.items.Item.{Item}
 use Rattle.repo_feeding.specs.inner.Rooms.{Fills, IsItemOf, IsLessBy}
 use Rattle.repo_feeding.specs.declared.reasons.GivenUp.{GivenUp}
@@ -31,7 +31,7 @@ use Rattle.repo_backup.specs.PieceStates.{piece_task}
 use Rattle.repo_backup.specs.declared.piece_backups.PieceBackup.{PieceBackup}
 use Rattle.repo_feeding.specs.FedObedience.{right_at, before_right}
 use Rattle.repo_feeding.specs.FedRules.{IsAsTold, IsOnTheWay, IsFedLate, AreWelcome}
-use Rattle.repo_feeding.specs.FedStates.{Feeder, IsFedRight, AreFedRight, HasCome, IsFed, IsFedUpto, FitsFed, IsAhead, StandsFed, next_of, ended_of}
+use Rattle.repo_feeding.specs.FedStates.{Feeder, IsFedRight, AreFedRight, HasCome, IsFed, IsWell, IsFedUpto, FitsFed, IsAhead, StandsFed, next_of, ended_of}
 use Rattle.repo_feeding.specs.Reasons.{IsNextItem, HasReason}
 use Rattle.repo_feeding.specs.Sources.{Told, whole_of, IsSound, IsUntouched, Comes}
 use Rattle.repo_feeding.specs.Unfed.{unfed}
@@ -219,7 +219,7 @@ module _ (f : Feeder) (new : PieceBackup) (es fs : Trace) (hungry : IsHungry f.b
       let wants = hungry_wants f.backup fs hungry upto.fed.at in
       let p = place_of (fed_in fs) in
       fed_more f new es fs hungry upto.fed (fed_bytes (take n f.rest)) f.told (drop n f.rest) cause may (λ items gone. gone) refl fits
-      (not_over (whole_of f.told) (after p (fed_bytes (take n f.rest))) wants.goes_on) (come_part f.told p f.rest n some may (upto.come hungry.1 wants.kept)) caused
+      (not_over (whole_of f.told) (after p (fed_bytes (take n f.rest))) wants.goes_on) (come_part f.told p f.rest n some may (upto.come (inl hungry.1) wants.kept)) caused
 
   -- what came, where nothing waits
   pub fed_found_item : (item : Fed) (told : Option Told) (cause : Place → Type 0) → MayTake (place_of (fed_in fs)) item → f.rest ≡ [] → GoesOn item → Comes f.told (Some item) told → ((p : Place) → cause p) → FitsPieces new (feeding item fs)
@@ -227,7 +227,7 @@ module _ (f : Feeder) (new : PieceBackup) (es fs : Trace) (hungry : IsHungry f.b
   fed_found_item item told cause may none on comes caused fits =
       let wants = hungry_wants f.backup fs hungry upto.fed.at in
       let p = place_of (fed_in fs) in
-      let here = clear_of f.told p f.rest none (upto.come hungry.1 wants.kept) in
+      let here = clear_of f.told p f.rest none (upto.come (inl hungry.1) wants.kept) in
       let next = comes_on f.told item told p may comes here in
       fed_more f new es fs hungry upto.fed item told [] cause may on (comes_whole f.told (Some item) told comes) fits
       (comes_told f.told item told p comes wants.goes_on next) (come_clear told (after p item) next) caused
@@ -236,15 +236,15 @@ module _ (f : Feeder) (new : PieceBackup) (es fs : Trace) (hungry : IsHungry f.b
   pub found_next : (item : Fed) (told : Option Told) → f.rest ≡ [] → Comes f.told (Some item) told → IsNextItem (whole_of told) (place_of (fed_in fs)) item
   found_next item told none comes =
       let wants = hungry_wants f.backup fs hungry upto.fed.at in
-      comes_next f.told item told (place_of (fed_in fs)) comes (clear_of f.told (place_of (fed_in fs)) f.rest none (upto.come hungry.1 wants.kept))
+      comes_next f.told item told (place_of (fed_in fs)) comes (clear_of f.told (place_of (fed_in fs)) f.rest none (upto.come (inl hungry.1) wants.kept))
 
   -- the bytes that wait do
   pub rest_next : f.rest ≢ [] → IsNextItem (whole_of f.told) (place_of (fed_in fs)) (fed_bytes f.rest)
-  rest_next some = let wants = hungry_wants f.backup fs hungry upto.fed.at in next_part f.told (place_of (fed_in fs)) f.rest some (upto.come hungry.1 wants.kept)
+  rest_next some = let wants = hungry_wants f.backup fs hungry upto.fed.at in next_part f.told (place_of (fed_in fs)) f.rest some (upto.come (inl hungry.1) wants.kept)
 
   -- no more is to come, and waits, than the source was made to give
   pub hungry_less : IsLessBy 0 f.told f.rest
-  hungry_less = let wants = hungry_wants f.backup fs hungry upto.fed.at in less_first f.told (place_of (fed_in fs)) f.rest (upto.come hungry.1 wants.kept)
+  hungry_less = let wants = hungry_wants f.backup fs hungry upto.fed.at in less_first f.told (place_of (fed_in fs)) f.rest (upto.come (inl hungry.1) wants.kept)
 
 -- bytes came, where nothing waits
 pub bytes_found : (f : Feeder) (es fs : Trace) (bytes : List ℕ) (told : Option Told) (cause : Place → Type 0) → f.rest ≡ [] → Comes f.told (Some (fed_bytes bytes)) told → ((p : Place) → cause p) → IsFedUpto f es fs
@@ -268,17 +268,33 @@ fed_none f new es fs told rest cause same fits fed = record { same = fed.same; a
 right_next : (whole : Option (List Fed)) (gave : Bool) (ask : Ask) (say : Say) (emitted : List Emission) (fs : Trace) → AreFedRight whole gave fs → AreFedRight whole gave (giving ask say emitted ∷ fs)
 right_next whole gave ask say emitted fs h = let top = right_at whole gave fs h in (record { welcome = (tt, top.welcome); late = (λ some. absurd (some refl), top.late); so_far = top.so_far; told = top.told; reason = top.reason }, h)
 
-pub taken_on : (f : Feeder) (new : PieceBackup) (es fs : Trace) (ask : Ask) (say : Say) (emitted : List Emission) → (ended_in new.session ≡ None → ended_in f.backup.session ≡ None) → FitsPieces new (giving ask say emitted ∷ fs) → IsFedUpto f es fs
+pub taken_on : (f : Feeder) (new : PieceBackup) (es fs : Trace) (ask : Ask) (say : Say) (emitted : List Emission) → (IsWell (ended_in new.session) → IsWell (ended_in f.backup.session)) → FitsPieces new (giving ask say emitted ∷ fs) → IsFedUpto f es fs
     → IsFedUpto (standing new f.told f.rest f.gave f.cause) (giving ask say emitted ∷ es) (giving ask say emitted ∷ fs)
-taken_on f new es fs ask say emitted unended fits upto = record {
+taken_on f new es fs ask say emitted back fits upto = record {
   fed = record {
     same = ap (λ xs. giving ask say emitted ∷ xs) upto.fed.same;
     at = fits;
     right = right_next (whole_of f.told) f.gave ask say emitted fs upto.fed.right;
     gone = upto.fed.gone;
   };
-  come = λ none. upto.come (unended none);
-  caused = λ why. upto.caused (elim why [ inl gave ↦ inl gave | inr none ↦ inr (unended none) ]);
+  come = λ well. upto.come (back well);
+  caused = λ why. upto.caused (elim why [ inl gave ↦ inl gave | inr well ↦ inr (back well) ]);
+}
+
+-- it stands as before, though its backup may hold other things inside
+pub upto_still : (f : Feeder) (new : PieceBackup) (es fs : Trace) → FitsPieces new fs → ended_in new.session ≡ ended_in f.backup.session → IsFedUpto f es fs → IsFedUpto (standing new f.told f.rest f.gave f.cause) es fs
+upto_still f new es fs fits ended upto = record {
+  fed = record { same = upto.fed.same; at = fits; right = upto.fed.right; gone = upto.fed.gone };
+  come = λ well. upto.come (subst (λ o. IsWell o) ended well);
+  caused = λ why. upto.caused (elim why [ inl gave ↦ inl gave | inr well ↦ inr (subst (λ o. IsWell o) ended well) ]);
+}
+
+pub fits_still : (f : Feeder) (new : PieceBackup) (es : Trace) → ((fs : Trace) → FitsPieces f.backup fs → FitsPieces new fs) → next_in new.session ≡ next_in f.backup.session → ended_in new.session ≡ ended_in f.backup.session → FitsFed f es
+    → FitsFed (standing new f.told f.rest f.gave f.cause) es
+fits_still f new es fits next ended h = record {
+  fs = h.fs;
+  upto = upto_still f new es h.fs (fits h.fs h.upto.fed.at) ended h.upto;
+  full = λ hungry. h.full (sym next ∙ hungry.0, sym ended ∙ hungry.1);
 }
 
 -- ---- the beginning, and the end
@@ -392,7 +408,7 @@ module _ {E : Type 0} (failed : E → Type 0) (whole : Option (List Fed)) where
 pub supposed_on : (f : Feeder) (new : PieceBackup) (request : Request) (es fs : Trace) → f.gave ≡ false → PieceSupposes f.backup request new → IsFedUpto f es fs
     → PieceAwaits new request fs × AreFedRight (whole_of f.told) false fs × IsFedUpto (standing new f.told f.rest f.gave f.cause) (silent request.ask Say.Done ∷ es) (silent request.ask Say.Done ∷ fs)
 supposed_on f new request es fs none supposes upto =
-    (supposes.awaits fs upto.fed.at, subst (λ gave. AreFedRight (whole_of f.told) gave fs) none upto.fed.right, taken_on f new es fs request.ask Say.Done [] (λ unended. supposes.unended) (supposes.fits fs upto.fed.at) upto)
+    (supposes.awaits fs upto.fed.at, subst (λ gave. AreFedRight (whole_of f.told) gave fs) none upto.fed.right, taken_on f new es fs request.ask Say.Done [] (λ well. inl supposes.unended) (supposes.fits fs upto.fed.at) upto)
 
 -- and with what was fed since, or the reason to give up, it is ahead of the reply
 pub ahead_on : (f : Feeder) (b : PieceBackup) (new : Feeder) (request : Request) (es : Trace) → f.gave ≡ false → PieceSupposes f.backup request b → FitsFed f es
@@ -415,23 +431,37 @@ token_put b request pending unended put =
     let token = b.session.head.holder.token in
     (λ i. token_told token (unended i) (pending i)) ∙ ap (λ a. token_beside token a) put.4
 
+-- any reply to a put but that it is done ends it, and nothing is stored
+not_well : (b : PieceBackup) (ask : Ask) (say : Say) (fs : Trace) → IsPut ask → say ≢ Say.Done → FitsPieces b (silent ask say ∷ fs) → ¬ IsWell (ended_in b.session)
+not_well b ask say fs (token, k, n, x, is) other fits well =
+    let obeys = pieces_obey b (silent ask say ∷ fs) fits in
+    let task = piece_task (who_in b.session) in
+    let heeded = subst (λ a. AreHeeded (upto task.versions) task.notes (ended_in b.session) (before_unlock (silent a say ∷ fs))) is obeys.heeded in
+    let by = heeded.0 (inr (inl (put_unwelcome token k n x say other))) in
+    ended well by.1 by.2.1
+  where
+    ended : {o : Outcome} {end : End} → IsWell (ended_in b.session) → ended_in b.session ≡ Some o → o ≡ Outcome.Ended end → ⊥
+    ended (inl none) some caused = absurd (cc)
+    ended (inr stored) some caused = let s = stored.3 in absurd (cc)
+
 -- another reply came, by which it ended
-pub retracted_on : (f : Feeder) (new : PieceBackup) (request : Request) (say : Say) (outcome : Outcome) (es : Trace) (cause : Place → Type 0) → say ≢ Say.Done → IsAhead f request es
-    → ((fs : Trace) → PieceAwaits f.backup request fs → FitsPieces new (silent request.ask say ∷ fs)) → ended_in new.session ≡ Some outcome
+pub retracted_on : (f : Feeder) (new : PieceBackup) (request : Request) (say : Say) (es : Trace) (cause : Place → Type 0) → say ≢ Say.Done → IsAhead f request es
+    → ((fs : Trace) → PieceAwaits f.backup request fs → FitsPieces new (silent request.ask say ∷ fs))
     → (more : Trace) × IsFedUpto (standing new f.told f.rest false cause) (silent request.ask say ∷ es) more
-retracted_on f new request say outcome es cause other h fits ended = (
-  silent request.ask say ∷ h.fs,
-  record {
-    fed = record {
-      same = ap (λ xs. silent request.ask say ∷ xs) h.same;
-      at = fits h.fs h.awaited;
-      right = right_next (whole_of f.told) false request.ask say [] h.fs h.right;
-      gone = λ gave. absurd (cc);
-    };
-    come = λ unended. absurd (cc);
-    caused = λ why. elim why [ inl gave ↦ absurd (cc) | inr unended ↦ absurd (cc) ];
-  },
-)
+retracted_on f new request say es cause other h fits =
+    let none = not_well new request.ask say h.fs h.awaited.put other (fits h.fs h.awaited) in (
+      silent request.ask say ∷ h.fs,
+      record {
+        fed = record {
+          same = ap (λ xs. silent request.ask say ∷ xs) h.same;
+          at = fits h.fs h.awaited;
+          right = right_next (whole_of f.told) false request.ask say [] h.fs h.right;
+          gone = λ gave. absurd (cc);
+        };
+        come = λ well. absurd (none well);
+        caused = λ why. elim why [ inl gave ↦ absurd (cc) | inr well ↦ absurd (none well) ];
+      },
+    )
 
 -- it is done
 pub settled_on : (f : Feeder) (request : Request) (say : Say) (es : Trace) → say ≡ Say.Done → IsAhead f request es → (more : Trace) × IsFedUpto f (silent request.ask say ∷ es) more
@@ -446,10 +476,10 @@ ended_fed f (Some request) es outcome h is = absurd (cc)
 pub heard_ahead : (f : Feeder) (awaited : Option Request) (letter request : Request) (es : Trace) → awaited ≡ Some letter → next_of f.backup awaited ≡ Some request → StandsFed f awaited es → IsAhead f letter es × (letter ≡ request)
 heard_ahead f awaited letter request es is next stands = (subst (λ a. StandsFed f a es) is stands, same_Some letter request (sym (ap (next_of f.backup) is) ∙ next))
 
--- there is no outcome, where there is none once it went on
-pub unended_before : (old new : PieceBackup) → ((outcome : Outcome) → ended_in old.session ≡ Some outcome → ended_in new.session ≡ Some outcome) → ended_in new.session ≡ None → ended_in old.session ≡ None
-unended_before old new stays none = by (ended_in old.session) refl
+-- where it is well once it went on, it was so before
+pub well_before : (old new : PieceBackup) → ((outcome : Outcome) → ended_in old.session ≡ Some outcome → ended_in new.session ≡ Some outcome) → IsWell (ended_in new.session) → IsWell (ended_in old.session)
+well_before old new stays well = by (ended_in old.session) refl
   where
-    by : (o : Option Outcome) → ended_in old.session ≡ o → ended_in old.session ≡ None
-    by None is = is
-    by (Some outcome) is = let there = stays outcome is in absurd (cc)
+    by : (o : Option Outcome) → ended_in old.session ≡ o → IsWell (ended_in old.session)
+    by None is = inl is
+    by (Some outcome) is = subst (λ o. IsWell o) (stays outcome is ∙ sym is) well

@@ -183,6 +183,10 @@ pub fresh_on : (told : Option Told) → IsUntouched told → IsClear told at_roo
 fresh_on None h = tt
 fresh_on (Some told) h = ([], sym h, tt, refl)
 
+pub no_bytes : (bytes : List ℕ) → length bytes ≡ 0 → bytes ≡ []
+no_bytes [] none = refl
+no_bytes (b ∷ bytes) none = absurd (cc)
+
 -- bytes that aren't none are some
 pub some_bytes : (bytes : List ℕ) → length bytes ≢ 0 → bytes ≢ []
 some_bytes bytes some none = some (ap length none)

@@ -1,5 +1,6 @@
 -- Where a backup that feeds itself stands.
 use Rattle.std.specs.Prelude.{◌≡◌, ◌⊎◌, ◌∷◌, [], ⊤, ℕ, Bool, true, false, List, is_some, Option, Some, None}
+use Rattle.repo_name.specs.declared.names.Name.{Name}
 use Rattle.repo_name.specs.declared.tokens.Token.{Token}
 use Rattle.repo_session.specs.Askers.{Asker}
 use Rattle.repo_session.specs.Feeds.{Fed}
@@ -68,11 +69,16 @@ pub record IsFed (f : Feeder) (es fs : Trace) : Type 0 where
   pub right : AreFedRight (whole_of f.told) f.gave fs
   pub gone : f.gave ≡ true → WasGivenUp (fed_in fs) × ((place_of (fed_in fs)).over ≡ false)
 
--- and while it goes on all that came from the source was fed, or waits, unless somebody gave up; and the source failed where that is the reason, and, while it goes on, nowhere else
+-- it goes on, or its snapshot is stored
+abbrev pub IsWell : Option Outcome → Type 0
+IsWell outcome = (outcome ≡ None) ⊎ ((name : Name) × (blobs : ℕ) × (bytes : ℕ) × (outcome ≡ Some (Outcome.Stored name blobs bytes)))
+
+-- and while it goes on, and where its snapshot is stored, all that came from the source was fed, or waits, unless somebody gave up; and the source failed where that is the reason, and,
+-- while it goes on or where its snapshot is stored, nowhere else
 pub record IsFedUpto (f : Feeder) (es fs : Trace) : Type 0 where
   pub fed : IsFed f es fs
-  pub come : ended_in f.backup.session ≡ None → NobodyGaveUp (fed_in fs) → HasCome f.told (place_of (fed_in fs)) f.rest
-  pub caused : (f.gave ≡ true) ⊎ (ended_in f.backup.session ≡ None) → f.cause (place_of (fed_in fs))
+  pub come : IsWell (ended_in f.backup.session) → NobodyGaveUp (fed_in fs) → HasCome f.told (place_of (fed_in fs)) f.rest
+  pub caused : (f.gave ≡ true) ⊎ IsWell (ended_in f.backup.session) → f.cause (place_of (fed_in fs))
 
 -- it does so with some items, and wants no input
 pub record FitsFed (f : Feeder) (es : Trace) : Type 0 where
@@ -107,10 +113,17 @@ abbrev pub token_of : PieceBackup → Option Request → Option Token
 token_of b None = token_in b.session
 token_of b (Some request) = Some b.session.head.holder.token
 
--- the reason that is told: none while a reply is awaited
+-- the reason, where it is that the source failed
+abbrev pub failing_in : {E : Type 0} → Option (GivenUp E) → Option (GivenUp E)
+failing_in None = None
+failing_in (Some (GivenUp.Source error)) = Some (GivenUp.Source error)
+failing_in (Some (GivenUp.Refused error)) = None
+failing_in (Some GivenUp.Endless) = None
+
+-- the reason that is told: while a reply is awaited only that the source failed
 abbrev pub told_reason : {E : Type 0} → Option Request → Option (GivenUp E) → Option (GivenUp E)
 told_reason None given_up = given_up
-told_reason (Some request) given_up = None
+told_reason (Some request) given_up = failing_in given_up
 
 -- ---- what its calls do
 

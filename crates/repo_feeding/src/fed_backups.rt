@@ -1,6 +1,6 @@
 //! The backup that feeds itself.
 
-ghost use Rattle.std.specs.Prelude.{◌≡◌, ◌⊎◌, ◌↔◌, ◌∷◌, [], ℕ, true, IsTrue, IsSome, IfSome, IfOk, IfErr, IsErrOf, OnOk, OnErr, is_some, Some, option_map};
+ghost use Rattle.std.specs.Prelude.{◌≡◌, ◌≢◌, ◌⊎◌, ◌↔◌, ◌∷◌, [], ℕ, true, IsTrue, IsFalse, IsSome, IfSome, IfOk, IfErr, IsErrOf, OnOk, OnErr, is_some, Some, option_map};
 ghost use Rattle.repo_name.specs.declared.names.Name.{Name};
 ghost use Rattle.repo_session.specs.Clients.{AnswersNext};
 ghost use Rattle.repo_wire.specs.Messages.{requests};
@@ -10,7 +10,7 @@ ghost use Rattle.repo_session.specs.Traces.{Trace};
 ghost use Rattle.repo_session.specs.declared.outcomes.End.{End};
 ghost use Rattle.repo_session.specs.declared.outcomes.Outcome.{Outcome};
 ghost use Rattle.repo_backup.specs.PieceBackups.{IsHungry};
-ghost use Rattle.repo_feeding.specs.FedStates.{feeder, job_of, fed_job, FitsFed, IsAhead, StandsFed, next_of, ended_of, told_reason, IsFedUpto, FeedsOn, FeedsPart, GivesUp, GaveUpAtOnce, FeedsUp};
+ghost use Rattle.repo_feeding.specs.FedStates.{feeder, job_of, fed_job, FitsFed, IsAhead, StandsFed, next_of, ended_of, failing_in, told_reason, IsFedUpto, FeedsOn, FeedsPart, GivesUp, GaveUpAtOnce, FeedsUp};
 ghost use Rattle.repo_session.specs.Traces.{fed_in, silent};
 ghost use Rattle.repo_backup.specs.Items.{place_of};
 ghost use Rattle.repo_feeding.specs.Reasons.{IsReason};
@@ -30,8 +30,11 @@ use std::alloc::{AllocError, Global};
 /// The most bytes that are fed ahead of a reply: three quarters of a pack, since the one that is put stands in memory, too.
 const BYTES_AHEAD: usize = 12_582_912;
 
-/// The most items that are.
-const ITEMS_AHEAD: u64 = 1 << 24;
+/// For so many bytes an item counts at least: 256. So the items that are fed ahead are 49,152 at most.
+const ITEM: usize = 256;
+
+/// In no more turns than there may be items.
+const TURNS_AHEAD: usize = BYTES_AHEAD / ITEM;
 
 /// A backup that feeds itself from a source. It gives up where the source fails, or an item isn't taken.
 #[derive(Drop)]
@@ -74,11 +77,21 @@ impl<S: Source + Drop> FedBackup<S> {
         })
     }
 
+    /// The reason, where it is that the source failed.
+    fn failing(&self) -> Option<&GivenUp<S::Error>>
+        ensures { option_map (λ reason. reason.now) result ≡ failing_in self.now.given_up }
+    {
+        match &self.given_up {
+            Some(reason @ GivenUp::Source(_)) => Some(reason),
+            _ => None,
+        }
+    }
+
     /// Why it was given up, where it was. Where it ended as one that was given up, there is a reason, and where its snapshot
     /// is stored, there is none. The reason is so: that the source failed, and for what; or, where it didn't, that the item
     /// that came next couldn't be taken behind those that were fed, and for what, or that it was fed without end: of 2^64 - 1
     /// items and bytes at least. Of a source of which it isn't known what it was made to give, neither is which item came
-    /// next, nor how many came. While a reply is awaited, of which it was ahead, none is told.
+    /// next, nor how many came. While a reply is awaited, of which it was ahead, it is told only that the source failed.
     pub fn given_up(&self) -> Option<&GivenUp<S::Error>>
         ensures same { option_map (λ reason. reason.now) result ≡ told_reason self.now.awaited self.now.given_up }
         ensures abandoned { (es : Trace) → StandsFed (feeder self.now.backup (S.told self.now.source) self.now.room (S.failed self.now.source) self.now.given_up) self.now.awaited es
@@ -88,7 +101,7 @@ impl<S: Source + Drop> FedBackup<S> {
         ensures cause { (es : Trace) (fits : FitsFed (feeder self.now.backup (S.told self.now.source) self.now.room (S.failed self.now.source) self.now.given_up) es) → IfSome result (λ reason. IsReason (S.failed self.now.source) (whole_of (S.told self.now.source)) (place_of (fed_in fits.fs)) reason.now) }
     {
         match &self.awaited {
-            Some(_) => None,
+            Some(_) => self.failing(),
             None => self.given_up.as_ref(),
         }
     }
@@ -148,12 +161,14 @@ impl<S: Source + Drop> FedBackup<S> {
         }
     }
 
-    /// Feeds what is left of a piece, and lets what wasn't taken wait; else what comes next.
+    /// Feeds what is left of a piece, and lets what wasn't taken wait; else what comes next. Where something is left of a piece, an
+    /// error changes nothing.
     fn feed_next(&mut self) -> Result<(), GivenUp<S::Error>>
         requires { IsHungry self.old.backup }
         ensures ok { OnOk result (FeedsOn (feeder self.old.backup (S.told self.old.source) self.old.room (S.failed self.old.source) self.old.given_up) (feeder self.new.backup (S.told self.new.source) self.new.room (S.failed self.new.source) self.new.given_up)) }
         ensures err { IfErr result (λ reason. FeedsPart (S.failed self.new.source) reason (feeder self.old.backup (S.told self.old.source) self.old.room (S.failed self.old.source) self.old.given_up) (feeder self.new.backup (S.told self.new.source) self.new.room (S.failed self.new.source) self.new.given_up)) }
         ensures known { ¬ IsErrOf result GivenUp.Endless }
+        ensures kept { self.old.room ≢ [] → OnErr result (FeedsOn (feeder self.old.backup (S.told self.old.source) self.old.room (S.failed self.old.source) self.old.given_up) (feeder self.new.backup (S.told self.new.source) self.new.room (S.failed self.new.source) self.new.given_up)) }
         ensures same { self.new.given_up ≡ self.old.given_up }
         ensures fewer { OnOk result (Lessens (S.told self.old.source) self.old.room (S.told self.new.source) self.new.room) }
         ensures hungry { OnErr result (IsHungry self.new.backup) }
@@ -226,7 +241,29 @@ impl<S: Source + Drop> FedBackup<S> {
 }
 
 impl<S: Source + Drop> FedBackup<S> {
-    /// Feeds items ahead of a reply, until the backup wants no input, or as many bytes were fed as may be.
+    /// Feeds once ahead of a reply, as otherwise, and says whether it may go on. Where there is no memory for bytes these wait: the
+    /// reply lets go of the pack that is put, and of its memory.
+    fn feed_once_ahead(&mut self) -> bool
+        requires { IsHungry self.old.backup }
+        ensures goes { FeedsOn (feeder self.old.backup (S.told self.old.source) self.old.room (S.failed self.old.source) self.old.given_up) (feeder self.new.backup (S.told self.new.source) self.new.room (S.failed self.new.source) self.new.given_up) }
+        ensures waits { IsFalse result → self.new.given_up ≡ self.old.given_up }
+        ensures job { job_of (feeder self.new.backup (S.told self.new.source) self.new.room (S.failed self.new.source) self.new.given_up) ≡ job_of (feeder self.old.backup (S.told self.old.source) self.old.room (S.failed self.old.source) self.old.given_up) }
+        ensures holder { self.new.backup.session.head.holder ≡ self.old.backup.session.head.holder }
+        ensures awaited { self.new.awaited ≡ self.old.awaited }
+    {
+        let is_within = !self.room.rest().is_empty();
+        let Err(reason) = self.feed_next() else {
+            return true;
+        };
+        if is_within && reason.is_for_memory() {
+            return false;
+        }
+        self.give_up(reason);
+        true
+    }
+
+    /// Feeds items ahead of a reply, until the backup wants no input, or as many bytes were fed as may be, or there is no memory for
+    /// more bytes.
     fn feed_ahead(&mut self)
         ensures goes { FeedsOn (feeder self.old.backup (S.told self.old.source) self.old.room (S.failed self.old.source) self.old.given_up) (feeder self.new.backup (S.told self.new.source) self.new.room (S.failed self.new.source) self.new.given_up) }
         ensures job { job_of (feeder self.new.backup (S.told self.new.source) self.new.room (S.failed self.new.source) self.new.given_up) ≡ job_of (feeder self.old.backup (S.told self.old.source) self.old.room (S.failed self.old.source) self.old.given_up) }
@@ -234,12 +271,14 @@ impl<S: Source + Drop> FedBackup<S> {
         ensures awaited { self.new.awaited ≡ self.old.awaited }
     {
         let mut fed: usize = 0;
-        for _ in 0..ITEMS_AHEAD {
+        for _ in 0..TURNS_AHEAD {
             if fed >= BYTES_AHEAD || !self.backup.wants() {
                 return;
             }
-            fed = fed.saturating_add(self.room.rest().len());
-            self.feed_once();
+            fed = fed.saturating_add(self.room.rest().len().max(ITEM));
+            if !self.feed_once_ahead() {
+                return;
+            }
         }
     }
 

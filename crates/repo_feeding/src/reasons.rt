@@ -12,3 +12,10 @@ pub enum GivenUp<E: Drop> {
     /// It was fed 2^64 - 1 times on one reply, and wanted more.
     Endless,
 }
+
+impl<E: Drop> GivenUp<E> {
+    /// Whether there was no memory for an item.
+    pub(crate) fn is_for_memory(&self) -> bool {
+        matches!(self, GivenUp::Refused(FeedError::Memory))
+    }
+}

@@ -1,4 +1,4 @@
-use Rattle.std.proofs.Common.{arith, sym, ap, subst, inr}
+use Rattle.std.proofs.Common.{arith, sym, ap, subst, inl, inr}
 use Rattle.repo_session.specs.Traces.{feeding, fed_in}
 use Rattle.repo_backup.specs.Items.{Place, fed_of, fed_part, place_of, size_of}
 use Rattle.repo_feeding.specs.FedStates.{feeder, IsFedUpto}
@@ -16,7 +16,7 @@ returns-in-None-clause-ok g c = λ es fs upto. (
     let told = g.S.Source.told c.fill.new.source in
     let failed = g.S.Source.failed c.fill.new.source in
     let none = no_reason f es fs c.requires.hungry upto.fed in
-    let sound = c.in-Ok.ensures.fails (sound_of (g.S.Source.failed old.source) (whole_of f.told) (place_of (fed_in fs)) old.given_up none (upto.caused (inr c.requires.hungry.1))) in
+    let sound = c.in-Ok.ensures.fails (sound_of (g.S.Source.failed old.source) (whole_of f.told) (place_of (fed_in fs)) old.given_up none (upto.caused (inr (inl c.requires.hungry.1)))) in
     let comes = found_none f.told c.fill.new.self told c.in-Ok.found c.in-None.ensures c.in-Ok.ensures.found in
     (fs, bytes_found f es fs c.fill.new.self told (λ p. HasReason failed (whole_of told) p old.given_up) c.requires.empty comes (reason_so failed (whole_of told) old.given_up none sound) upto))
 
@@ -27,7 +27,7 @@ returns-in-Ok-feed-clause-ok g c = λ es fs upto. (
     let told = g.S.Source.told c.fill.new.source in
     let failed = g.S.Source.failed c.fill.new.source in
     let none = no_reason f es fs c.requires.hungry upto.fed in
-    let sound = c.in-Ok.ensures.fails (sound_of (g.S.Source.failed old.source) (whole_of f.told) (place_of (fed_in fs)) old.given_up none (upto.caused (inr c.requires.hungry.1))) in
+    let sound = c.in-Ok.ensures.fails (sound_of (g.S.Source.failed old.source) (whole_of f.told) (place_of (fed_in fs)) old.given_up none (upto.caused (inr (inl c.requires.hungry.1)))) in
     let item = c.in-Some.item in
     let n = c.in-Ok-feed.field-0 in
     let took = c.in-Ok-feed.ensures.took in
@@ -43,7 +43,7 @@ returns-in-Err-clause-err g c = λ es fs upto. (
     let told = g.S.Source.told c.fill.new.source in
     let failed = g.S.Source.failed c.fill.new.source in
     let none = no_reason f es fs c.requires.hungry upto.fed in
-    let sound = sound_of (g.S.Source.failed old.source) (whole_of f.told) (place_of (fed_in fs)) old.given_up none (upto.caused (inr c.requires.hungry.1)) in
+    let sound = sound_of (g.S.Source.failed old.source) (whole_of f.told) (place_of (fed_in fs)) old.given_up none (upto.caused (inr (inl c.requires.hungry.1))) in
     (fed_none f old.backup es fs told c.fill.new.self (λ p. HasReason failed (whole_of told) p old.given_up) (ap whole_of c.in-Err.ensures.failed.1) upto.fed.at upto.fed, c.in-Err.ensures.fails sound))
 
 pub returns-clause-err : goal.returns-clause-err
@@ -53,7 +53,7 @@ returns-clause-err g c = λ es fs upto. (
     let told = g.S.Source.told c.fill.new.source in
     let failed = g.S.Source.failed c.fill.new.source in
     let none = no_reason f es fs c.requires.hungry upto.fed in
-    let sound = c.in-Ok.ensures.fails (sound_of (g.S.Source.failed old.source) (whole_of f.told) (place_of (fed_in fs)) old.given_up none (upto.caused (inr c.requires.hungry.1))) in
+    let sound = c.in-Ok.ensures.fails (sound_of (g.S.Source.failed old.source) (whole_of f.told) (place_of (fed_in fs)) old.given_up none (upto.caused (inr (inl c.requires.hungry.1)))) in
     let same = fills_whole f.told c.fill.new.self told c.in-Ok.found c.in-Ok.ensures.found in
     let item = c.in-Some.item in
     let one = found_some f.told c.fill.new.self told c.in-Ok.found item (size_of item) c.in-Some.ensures c.in-Ok.ensures.found (omega (arith)) in

@@ -1,5 +1,5 @@
-use Rattle.std.proofs.Common.{arith, ◌≢◌, [], length, refl, sym, ap, subst, inr, take, ◌∙◌}
-use Rattle.std.proofs.lemmas.Bool.{eqb-false}
+use Rattle.std.proofs.Common.{arith, ◌≡◌, ◌≢◌, [], length, refl, sym, ap, subst, inl, inr, take, ◌∙◌}
+use Rattle.std.proofs.lemmas.Bool.{eqb-false, eqb-true}
 use Rattle.std.proofs.lemmas.List.{take_all}
 use Rattle.repo_session.specs.Feeds.{fed_bytes}
 use Rattle.repo_session.specs.Traces.{feeding, fed_in}
@@ -9,8 +9,8 @@ use Rattle.repo_feeding.specs.FedStates.{feeder, IsFedUpto}
 use Rattle.repo_feeding.specs.Reasons.{HasReason}
 use Rattle.repo_feeding.specs.Sources.{whole_of}
 use Rattle.repo_feeding.specs.inner.Rooms.{Lessens}
-use Rattle.repo_feeding.proofs.Feeding.{standing, fed_none, fed_part_of, no_reason, rest_next, sound_of, reason_so}
-use Rattle.repo_feeding.proofs.Places.{less_part, some_bytes}
+use Rattle.repo_feeding.proofs.Feeding.{standing, fed_none, fed_part_of, no_reason, rest_next, sound_of, reason_so, upto_still}
+use Rattle.repo_feeding.proofs.Places.{less_part, no_bytes, some_bytes}
 use Rattle.repo_feeding.proofs.fed_backups.FedBackup.feed_next.Goals as goal
 
 pub returns-in-Ok-clause-ok : goal.returns-in-Ok-clause-ok
@@ -19,7 +19,7 @@ returns-in-Ok-clause-ok g c = λ es fs upto. (
     let f = feeder old.backup (g.S.Source.told old.source) old.room (g.S.Source.failed old.source) old.given_up in
     let failed = g.S.Source.failed old.source in
     let none = no_reason f es fs c.requires upto.fed in
-    let sound = sound_of failed (whole_of f.told) (place_of (fed_in fs)) old.given_up none (upto.caused (inr c.requires.1)) in
+    let sound = sound_of failed (whole_of f.told) (place_of (fed_in fs)) old.given_up none (upto.caused (inr (inl c.requires.1))) in
     let cause : Place → Type 0 = λ p. HasReason failed (whole_of f.told) p old.given_up in
     let n = c.in-Ok.count in
     let new = c.feed.new.self in
@@ -35,7 +35,7 @@ returns-in-Err-clause-err g c = λ es fs upto. (
     let f = feeder old.backup (g.S.Source.told old.source) old.room (g.S.Source.failed old.source) old.given_up in
     let failed = g.S.Source.failed old.source in
     let none = no_reason f es fs c.requires upto.fed in
-    let sound = sound_of failed (whole_of f.told) (place_of (fed_in fs)) old.given_up none (upto.caused (inr c.requires.1)) in
+    let sound = sound_of failed (whole_of f.told) (place_of (fed_in fs)) old.given_up none (upto.caused (inr (inl c.requires.1))) in
     let some : old.room ≢ [] = subst (λ bytes. bytes ≢ []) c.rest-rest.ensures (some_bytes c.rest-rest.result.now (eqb-false (length c.rest-rest.result.now) 0 (sym c.is_empty.ensures ∙ c.if-is_empty.false))) in
     let all = take_all (length old.room) old.room (omega (arith)) in
     let fault = subst (λ bytes. ItemFault (place_of (fed_in fs)) (fed_bytes (take (length bytes) bytes)) c.in-Err.error) c.rest-rest.ensures (c.in-Err.ensures.fault c.requires fs upto.fed.at) in (
@@ -52,3 +52,12 @@ returns-in-Ok-clause-fewer g c =
     let same = ap length c.rest-rest.ensures in
     let some = eqb-false (length c.rest-rest.result.now) 0 (sym c.is_empty.ensures ∙ c.if-is_empty.false) in
     subst (λ rest. Lessens told old.room told rest) (sym c.pass.ensures) (less_part told old.room n (omega (arith, count.0, same)) (count.1 (omega (arith, some))))
+
+pub returns-in-Err-clause-kept : goal.returns-in-Err-clause-kept
+returns-in-Err-clause-kept g c = λ some es fs upto. (
+    let old = c.args.self.now in
+    let f = feeder old.backup (g.S.Source.told old.source) old.room (g.S.Source.failed old.source) old.given_up in
+    (fs, upto_still f c.feed.new.self es fs (c.in-Err.ensures.stays fs upto.fed.at) c.in-Err.ensures.next.1 upto))
+
+pub returns-then-is_empty-clause-kept : goal.returns-then-is_empty-clause-kept
+returns-then-is_empty-clause-kept g c = λ some. absurd (some (subst (λ bytes. bytes ≡ []) c.rest-rest.ensures (no_bytes c.rest-rest.result.now (eqb-true (length c.rest-rest.result.now) 0 (sym c.is_empty.ensures ∙ c.if-is_empty.true)))))

@@ -1,5 +1,5 @@
 use Rattle.std.specs.Prelude.{◌-◌, ◌^◌}
-use Rattle.std.proofs.Common.{arith, ◌≤◌, refl, inr, ◌∙◌}
+use Rattle.std.proofs.Common.{arith, ◌≤◌, refl, inl, inr, ◌∙◌}
 use Rattle.repo_session.specs.Traces.{fed_in}
 use Rattle.repo_backup.specs.Items.{place_of}
 use Rattle.repo_feeding.specs.FedStates.{feeder}
@@ -47,7 +47,7 @@ returns-then-wants-clause-up g c = λ es fs upto. (
     let told = g.S.Source.told s.source in
     let f = feeder s.backup told s.room (g.S.Source.failed s.source) s.given_up in
     let hungry = c.wants-2.ensures.0 c.if-wants.true in
-    let sound = sound_of (g.S.Source.failed s.source) (whole_of told) (place_of (fed_in m.0)) s.given_up (no_reason f es m.0 hungry m.1.fed) (m.1.caused (inr hungry.1)) in
+    let sound = sound_of (g.S.Source.failed s.source) (whole_of told) (place_of (fed_in m.0)) s.given_up (no_reason f es m.0 hungry m.1.fed) (m.1.caused (inr (inl hungry.1))) in
     let many : 2 ^ 64 - 1 ≤ c.loop-turn.turn = omega (arith, c.loop-turn-test.false) in
     c.give_up.ensures.up es m.0 m.1.fed (sound, less_endless c.loop-turn.turn told s.room many (c.loop-turn.invariant.less es fs upto hungry)))
 

@@ -19,7 +19,7 @@ returns-in_default g c =
     let f = feeder old.backup told old.room failed old.given_up in
     let cause : Place → Type 0 = λ p. HasReason failed (whole_of told) p None in
     record {
-      settles = λ es ahead. retracted_on f c.retract.new.self c.args.letter c.args.say.now c.retract.ensures.ended.0 es cause c.in_default.not-Done ahead (λ fs awaited. c.retract.ensures.fits c.in_default.not-Done fs awaited) c.retract.ensures.ended.1;
+      settles = λ es ahead. retracted_on f c.retract.new.self c.args.letter c.args.say.now es cause c.in_default.not-Done ahead (λ fs awaited. c.retract.ensures.fits c.in_default.not-Done fs awaited);
       awaited = refl;
       job = ap (λ (h : Holding). job_under h.who (whole_of told)) c.retract.ensures.holder;
     }

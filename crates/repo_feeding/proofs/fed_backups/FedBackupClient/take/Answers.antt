@@ -1,10 +1,11 @@
 use Rattle.std.proofs.Common.{◌≡◌, ◌∷◌, [], None, sym, ap, subst, ◌∙◌}
+use Rattle.std.proofs.lemmas.Result.{err_from_is_err_and}
 use Rattle.repo_wire.specs.declared.messages.Request.{Request}
 use Rattle.repo_session.specs.Clients.{exchange}
 use Rattle.repo_session.specs.Traces.{Trace, silent}
 use Rattle.repo_feeding.specs.FedStates.{feeder, FitsFed, IsFedUpto, StandsFed, next_of}
 use Rattle.repo_feeding.specs.declared.fed_backups.FedBackup.{FedBackup}
-use Rattle.repo_feeding.proofs.Feeding.{heard_ahead, taken_on, unended_before}
+use Rattle.repo_feeding.proofs.Feeding.{fits_still, heard_ahead, taken_on, well_before}
 use Rattle.repo_feeding.proofs.fed_backups.FedBackupClient.take.Goals.{in-Some, in-None+in_ok-take-in-None}
 use Rattle.repo_feeding.proofs.fed_backups.FedBackupClient.take.Goals as goal
 
@@ -31,10 +32,22 @@ returns-clause-taken g c = λ request is answered es stands. (
           let taken = w.take-in-None.new.self in
           let pending = sym (ap (next_of old.backup) before) ∙ is in
           let inner = w.in_ok-take-in-None.ensures.taken request pending answered at.fs at.upto.fed.at in
-          let back = unended_before old.backup taken (λ outcome there. w.in_ok-take-in-None.ensures.stays at.fs outcome at.upto.fed.at there) in
+          let back = well_before old.backup taken (λ outcome there. w.in_ok-take-in-None.ensures.stays at.fs outcome at.upto.fed.at there) in
           let upto = taken_on f taken es at.fs request.ask say [] back inner at.upto in
           let more : Trace = exchange request c.args.reply.now [] ∷ at.fs in
           let fits = c.feed_up.ensures.up hs more (subst (Upto more) (sym w.self-is) upto) in
           let none = c.feed_up.ensures.awaited ∙ ap (λ (s : FedBackup g.row.S.Denot g.row.S-Error.Denot). s.awaited) w.self-is ∙ c.take.ensures.after in
           subst (λ a. StandsFed now a hs) (sym none) fits
     ])
+
+pub returns-in_err-take-in-None-clause-fits : goal.returns-in_err-take-in-None-clause-fits
+returns-in_err-take-in-None-clause-fits g c =
+    let old = c.args.self.now in
+    let told = g.S.Source.told old.source in
+    let failed = g.S.Source.failed old.source in
+    let f = feeder old.backup told old.room failed old.given_up in
+    let now = feeder c.take-in-None.new.self told old.room failed old.given_up in
+    let err = c.in_err-take-in-None.ensures in
+    let before : old.awaited ≡ None = sym c.take.ensures.value ∙ c.in-None.is in
+    let p = err_from_is_err_and c.from_residual.result c.from_residual.ensures.1 in
+    rw p.1 (λ es stands. subst (λ a. StandsFed now a es) (sym c.take.ensures.after) (fits_still f c.take-in-None.new.self es err.fits err.next err.ended (subst (λ a. StandsFed f a es) before stands)))
