@@ -388,10 +388,6 @@ not_stored f es name blobs bytes fits is gave =
 pub no_reason : (f : Feeder) (es fs : Trace) → IsHungry f.backup → IsFed f es fs → f.gave ≢ true
 no_reason f es fs hungry fed gave = nobody_gone (fed_in fs) (hungry_wants f.backup fs hungry fed.at).kept (fed.gone gave).0
 
--- where there is a reason it wants none
-pub full_with : (f : Feeder) (es fs : Trace) → IsFed f es fs → f.gave ≡ true → ¬ IsHungry f.backup
-full_with f es fs fed gave hungry = no_reason f es fs hungry fed gave
-
 module _ {E : Type 0} (failed : E → Type 0) (whole : Option (List Fed)) where
   -- where there is no reason its source hasn't failed
   pub sound_of : (p : Place) (given_up : Option (GivenUp E)) → is_some given_up ≢ true → HasReason failed whole p given_up → IsSound failed

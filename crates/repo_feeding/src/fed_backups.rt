@@ -1,6 +1,6 @@
 //! The backup that feeds itself.
 
-ghost use Rattle.std.specs.Prelude.{◌≡◌, ◌≢◌, ◌⊎◌, ◌↔◌, ◌∷◌, [], ℕ, true, IsTrue, IsFalse, IsSome, IfSome, IfOk, IfErr, IsErrOf, OnOk, OnErr, is_some, Some, option_map};
+ghost use Rattle.std.specs.Prelude.{◌≡◌, ◌≢◌, ◌⊎◌, ◌↔◌, ◌∷◌, [], ℕ, IsTrue, IsFalse, IsSome, IfSome, IfOk, IfErr, IsErrOf, OnOk, OnErr, Some, option_map};
 ghost use Rattle.repo_name.specs.declared.names.Name.{Name};
 ghost use Rattle.repo_session.specs.Clients.{AnswersNext};
 ghost use Rattle.repo_wire.specs.Messages.{requests};
@@ -223,7 +223,6 @@ impl<S: Source + Drop> FedBackup<S> {
     fn feed_up(&mut self)
         ensures up { FeedsUp (feeder self.old.backup (S.told self.old.source) self.old.room (S.failed self.old.source) self.old.given_up) (feeder self.new.backup (S.told self.new.source) self.new.room (S.failed self.new.source) self.new.given_up) }
         ensures full { ¬ IsHungry self.old.backup → self.new ≡ self.old }
-        ensures spared { (es fs : Trace) → IsFedUpto (feeder self.old.backup (S.told self.old.source) self.old.room (S.failed self.old.source) self.old.given_up) es fs → is_some self.old.given_up ≡ true → self.new ≡ self.old }
         ensures job { job_of (feeder self.new.backup (S.told self.new.source) self.new.room (S.failed self.new.source) self.new.given_up) ≡ job_of (feeder self.old.backup (S.told self.old.source) self.old.room (S.failed self.old.source) self.old.given_up) }
         ensures holder { self.new.backup.session.head.holder ≡ self.old.backup.session.head.holder }
         ensures awaited { self.new.awaited ≡ self.old.awaited }

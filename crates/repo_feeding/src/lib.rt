@@ -11,11 +11,13 @@
 //!
 //! Promised: what it asks for, and how it ends, is what a backup may that was fed some items in their places between its
 //! exchanges, and no snapshot is put but of items that ended. Where the source fails, or an item isn't taken, the backup is
-//! given up, and for no other reason but that it was fed without end; the reason is kept, and is the true one; and a source
-//! that failed is asked no more. Where it is known what a source was made to give, the items so far are on the way to that,
+//! given up, and for no other reason but that it was fed without end; the reason is the true one, and is kept, but where it came
+//! ahead of a reply by which the backup ends. While it goes on, and where its snapshot is stored, a source that failed, or that came
+//! to its end, wasn't asked again. Where it is known what a source was made to give, the items so far are on the way to that,
 //! the one that isn't taken is the next of it, without end is at least 2^64 - 1 items and bytes, and a snapshot spells just
 //! that.
-//! Not promised: that a source ends. But each reply is taken in fewer than 2^64 turns.
+//! Not promised: that a source ends. But each reply is taken in fewer than 2^64 turns. Nor how much is fed ahead of a reply: 12 MiB
+//! at most, where an item counts for 256 bytes at least.
 //!
 //! The definitions stand in `specs/`: `Sources` (what comes from a source), `Unfed` and `FedRules` (what such a backup may
 //! ask for, and how it may end), `Reasons` (why it was given up), `FedStates` (where it stands), `FedLaws` (what it stored). `Unseen` and `FedObedience` say

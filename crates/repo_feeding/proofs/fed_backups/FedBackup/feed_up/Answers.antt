@@ -4,7 +4,7 @@ use Rattle.repo_session.specs.Traces.{fed_in}
 use Rattle.repo_backup.specs.Items.{place_of}
 use Rattle.repo_feeding.specs.FedStates.{feeder}
 use Rattle.repo_feeding.specs.Sources.{whole_of}
-use Rattle.repo_feeding.proofs.Feeding.{full_with, hungry_less, no_reason, sound_of}
+use Rattle.repo_feeding.proofs.Feeding.{hungry_less, no_reason, sound_of}
 use Rattle.repo_feeding.proofs.Places.{less_endless, less_on}
 use Rattle.repo_feeding.proofs.fed_backups.FedBackup.feed_up.Goals as goal
 
@@ -55,12 +55,3 @@ pub returns-else-wants-clause-up : goal.returns-else-wants-clause-up
 returns-else-wants-clause-up g c = λ es fs upto. (
     let m = c.loop-turn.invariant.goes es fs upto in
     record { fs = m.0; upto = m.1; full = λ hungry. (let h = c.wants-2.ensures.1 hungry in absurd (cc)) })
-
-pub returns-then-not-wants-clause-spared : goal.returns-then-not-wants-clause-spared
-returns-then-not-wants-clause-spared g c = λ es fs upto gave. c.loop-turn.invariant.full (full_with (feeder c.args.self.now.backup (g.S.Source.told c.args.self.now.source) c.args.self.now.room (g.S.Source.failed c.args.self.now.source) c.args.self.now.given_up) es fs upto.fed gave)
-
-pub returns-then-wants-clause-spared : goal.returns-then-wants-clause-spared
-returns-then-wants-clause-spared g c = λ es fs upto gave. absurd (c.loop-turn.invariant.still (full_with (feeder c.args.self.now.backup (g.S.Source.told c.args.self.now.source) c.args.self.now.room (g.S.Source.failed c.args.self.now.source) c.args.self.now.given_up) es fs upto.fed gave) (c.wants-2.ensures.0 c.if-wants.true))
-
-pub returns-else-wants-clause-spared : goal.returns-else-wants-clause-spared
-returns-else-wants-clause-spared g c = λ es fs upto gave. c.loop-turn.invariant.full (full_with (feeder c.args.self.now.backup (g.S.Source.told c.args.self.now.source) c.args.self.now.room (g.S.Source.failed c.args.self.now.source) c.args.self.now.given_up) es fs upto.fed gave)
