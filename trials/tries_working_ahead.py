@@ -32,11 +32,11 @@ def is_pack(request):
 
 
 class Site:
-    """A store, and a folder with one large file."""
+    """A store, and a folder with one large file, and a small one behind it."""
 
-    def __init__(self, yard):
+    def __init__(self, yard, size=20 * MIB):
         self.yard = yard
-        self.home = filled(yard.top / "home", {"large": random.Random(1).randbytes(20 * MIB)})
+        self.home = filled(yard.top / "home", {"large": random.Random(1).randbytes(size), "next": b"abc"})
 
     def backed_up(self, server, **hooks):
         """A backup over a line with these hooks, which are handed how far it has read: its status and what it printed."""
@@ -91,4 +91,28 @@ def a_backup_that_was_ahead_ends_by_what_it_is_told():
         same(site.backed_up(server, before=removes, after=holding_back(held)), "1||fenced\n")
         holds(held, "nothing was held back")
         same(list(yard.root.glob("data/*/*")), [], "packs")
+        is_clean(server.address)
+
+
+@trial
+def a_file_that_is_gone_ahead_of_a_reply_is_told_where_the_connection_ends():
+    """The file behind the first pack is removed before that arrives, and the connection ends once the backup came to it."""
+    with Yard(*NUMBERS, is_store=True) as yard, Server(yard.root, connections=9) as server:
+        site = Site(yard, READ_AHEAD)
+
+        def removes(_):
+            def before(_, request):
+                if is_pack(request):
+                    (site.home / "next").unlink()
+                return True
+            return before
+
+        def cuts(has_read):
+            def after(_, request, __):
+                if is_pack(request):
+                    awaits(lambda: has_read() == 0, "the large file was read")
+                    return False
+                return True
+            return after
+        same(site.backed_up(server, before=removes, after=cuts), f"1||unreadable {site.home}/next\nread failed\n")
         is_clean(server.address)
