@@ -20,13 +20,13 @@ ADDRESS = f"127.0.0.1:{os.environ.get('PORT', 7085)}"
 STEPS = ("backup", "again", "edited", "restore", "check", "forget and prune")
 # Of each group which symbols are in it; a symbol is in the first that takes it.
 GROUPS = (
-    ("SHA-256 of one stream", r"TODO"),
-    ("side by side", r"TODO"),
-    ("cutting", r"TODO"),
-    ("kernel: files", r"TODO"),
-    ("kernel: sockets", r"TODO"),
-    ("copies", r"mem(cpy|move|set)"),
-    ("kernel: other", r"\[k\]"),
+    ("SHA-256, one stream", r"repo_sha::(streams|rounds|schedules|messages)"),
+    ("SHA-256, side by side", r"repo_sha::"),
+    ("cutting", r"repo_chunk::"),
+    ("copies", r"__mem(move|cpy|set|cmp)"),
+    ("kernel: copies", r"\[k\] .*(rep_movs|copy_|_copy)"),
+    ("kernel: memory", r"\[k\] .*(page|fault|memcg|charge|lru|zap|mmap|vma|vm_)"),
+    ("kernel: files and the rest", r"\[k\]"),
 )
 LINE = re.compile(r"\s*[\d.]+%\s+(\d+)\s+(\[[.k]\]\s+.*\S)")
 

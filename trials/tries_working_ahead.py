@@ -115,4 +115,5 @@ def a_file_that_is_gone_ahead_of_a_reply_is_told_where_the_connection_ends():
                 return True
             return after
         same(site.backed_up(server, before=removes, after=cuts), f"1||unreadable {site.home}/next\nread failed\n")
+        has_status(told("unlock", server.address, "--remove-all"), 0)
         is_clean(server.address)

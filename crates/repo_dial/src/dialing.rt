@@ -4,7 +4,7 @@ ghost use Rattle.std.specs.Prelude.{◌≡◌, ◌≤◌, ◌↔◌, ◌∷◌, 
 ghost use Rattle.repo_dial.specs.Dialing.{Connections, Dials, HangsUp, once};
 
 use crate::ends::{KnownChannel, Pair, pair_of};
-use std::net::{Net, TcpStream};
+use std::net::{Net, OpenStream, TcpStream};
 use std::time::Duration;
 
 /// A way to connect to a server, which may be asked for one connection after another.
@@ -33,14 +33,18 @@ pub struct Address<'a, T: Net> {
     ready: Option<Pair<T::Stream, T::Stream>>,
 }
 
-/// Connects to an address.
+/// Connects to an address. What is written goes at once: else the bytes of a put would wait until its head, which is written before
+/// them, was acknowledged. Where that can't be set they wait.
 fn connect<T: Net>(
     rt: &T,
     address: &str,
     idle: Option<Duration>,
 ) -> Option<Pair<T::Stream, T::Stream>> {
     match TcpStream::connect(rt, address) {
-        Ok(stream) => pair_of(stream, idle),
+        Ok(stream) => {
+            let _ = stream.set_nodelay(true);
+            pair_of(stream, idle)
+        }
         Err(_) => None,
     }
 }
