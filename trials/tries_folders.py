@@ -8,12 +8,11 @@ import shutil
 import socket
 import subprocess
 import time
-from pathlib import Path
 
 from connections import Watched
 from program import TICKET, Server, matches, token, told
 from tries_at_once import PUT, at_first
-from tries_hostile import memory
+from tries_hostile import memory, memory_of
 from trying import OPTIONS, WAIT, Skipped, holds, is_possible, same, trial
 from yards import SMALL, STORED, Yard, entries, filled, gives_back, in_store, is_clean, restores, stored
 
@@ -171,10 +170,9 @@ def large_files_come_back():
 
 def most_memory(child):
     """The most memory that a process takes until it ends, in KiB, as it is seen every hundredth of a second."""
-    status, most, until = Path(f"/proc/{child.pid}/status"), 0, time.monotonic() + WAIT
+    most, until = 0, time.monotonic() + WAIT
     while child.poll() is None and time.monotonic() < until:
-        line = next((it for it in status.read_text().splitlines() if it.startswith("VmHWM:")), "VmHWM: 0")
-        most = max(most, int(line.split()[1]))
+        most = max(most, memory_of(child, "VmHWM:") or 0)
         time.sleep(0.01)
     return most
 

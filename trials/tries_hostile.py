@@ -12,10 +12,17 @@ from yards import Yard, entries, filled, gives_back, in_store, is_clean
 MOST = 26_214_400
 
 
+def memory_of(process, word):
+    """What a process holds: VmRSS now, VmHWM at most, in KiB; None once it has ended."""
+    status = Path(f"/proc/{process.pid}/status").read_text()
+    return next((int(line.split()[1]) for line in status.splitlines() if line.startswith(word)), None)
+
+
 def memory(server, word):
-    """What the server's process holds: VmRSS now, VmHWM at most, in KiB."""
-    status = Path(f"/proc/{server.process.pid}/status").read_text()
-    return int(next(line.split()[1] for line in status.splitlines() if line.startswith(word)))
+    """What the server's process holds, which has to run."""
+    held = memory_of(server.process, word)
+    holds(held is not None, "the server has ended")
+    return held
 
 
 def files(server):

@@ -284,7 +284,7 @@ taken_on f new es fs ask say emitted back fits upto = record {
 -- it stands as before, though its backup may hold other things inside
 pub upto_still : (f : Feeder) (new : PieceBackup) (es fs : Trace) → FitsPieces new fs → ended_in new.session ≡ ended_in f.backup.session → IsFedUpto f es fs → IsFedUpto (standing new f.told f.rest f.gave f.cause) es fs
 upto_still f new es fs fits ended upto = record {
-  fed = record { same = upto.fed.same; at = fits; right = upto.fed.right; gone = upto.fed.gone };
+  fed = fed_none f new es fs f.told f.rest f.cause refl fits upto.fed;
   come = λ well. upto.come (subst (λ o. IsWell o) ended well);
   caused = λ why. upto.caused (elim why [ inl gave ↦ inl gave | inr well ↦ inr (subst (λ o. IsWell o) ended well) ]);
 }
