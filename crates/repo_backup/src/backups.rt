@@ -29,7 +29,7 @@ use crate::sending::put_snapshot;
 use crate::steps::{Position, WalkStep};
 use crate::walks::Went;
 use repo_index::{Facts, IndexText, PackFacts};
-use repo_name::{GREATEST_TARGET, Kind, LEAST_TARGET, Name};
+use repo_name::{Kind, Name};
 use repo_session::{Came, Catalog, Emission, Holder, Job, Outcome, Session, Step, Versions, Who};
 use repo_tree::{Config, Entry};
 use repo_wire::{Ask, Say};
@@ -346,7 +346,7 @@ impl Job for Backup {
     }
 
     fn opened(&mut self, _holder: &Holder, config: &Config) -> Step {
-        let target = Target::of(config.target.clamp(LEAST_TARGET, GREATEST_TARGET) as u32);
+        let target = Target::of_config(config);
         let work = PieceWork::new(self.alloc, config.params, config.version, target);
         self.backing = Some(PieceBacking::new(self.alloc, work));
         Step::Ask(self.catalog.page_ask())

@@ -24,7 +24,7 @@ use crate::piece_works::{PieceWork, Took};
 use crate::sending::put_snapshot;
 use crate::walks::Went;
 use repo_index::{IndexText, PackFacts};
-use repo_name::{GREATEST_TARGET, Kind, LEAST_TARGET, Name};
+use repo_name::{Kind, Name};
 use repo_session::{Came, Catalog, Emission, End, Holder, Job, Outcome, Step, Versions};
 use repo_tree::Config;
 use repo_wire::{Ask, Say};
@@ -326,7 +326,7 @@ impl Job for PieceJob {
     }
 
     fn opened(&mut self, _holder: &Holder, config: &Config) -> Step {
-        let target = Target::of(config.target.clamp(LEAST_TARGET, GREATEST_TARGET) as u32);
+        let target = Target::of_config(config);
         let work = PieceWork::new(self.alloc, config.params, config.version, target);
         self.backing = Some(PieceBacking::new(self.alloc, work));
         Step::Ask(self.catalog.page_ask())

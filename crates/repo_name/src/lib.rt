@@ -29,7 +29,7 @@ pub use fields::{
 pub use kinds::{BlobKind, Kind, Thing};
 pub use limits::{
     BLOB_LIMIT, BLOBS_LIMIT, CONTENTS_LIMIT, FACTS_LIMIT, FIELDS_LIMIT, FILE_END, GREATEST_TARGET,
-    HEADER_LIMIT, INDEX_LIMIT, LEAST_TARGET, PACK_LIMIT, PUT_LIMIT, TEXT_LIMIT,
+    HEADER_LIMIT, INDEX_LIMIT, LEAST_TARGET, MAPPED, PACK_LIMIT, PUT_LIMIT, TEXT_LIMIT,
 };
 pub use name_maps::{insert_named, remove_named};
 pub use names::{Instance, Name, NameError, name_of};

@@ -38,3 +38,7 @@ pub const FIELDS_LIMIT: usize = 26_214_375;
 
 /// The greatest length of the bytes of a Put.
 pub const PUT_LIMIT: usize = 26_214_334;
+
+/// So much is asked for where the memory is to be given back to the system as soon as it is let go: above 32 MiB the system's
+/// allocator maps memory for what asks, and unmaps it then. Of that only what is touched counts.
+pub const MAPPED: usize = 34_603_008;

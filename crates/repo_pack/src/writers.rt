@@ -11,7 +11,7 @@ use crate::faults::PackError;
 use crate::places::{Place, PlacedBlob};
 use crate::rows::{Row, header_bytes};
 use repo_name::{
-    BLOB_LIMIT, BLOBS_LIMIT, BlobKind, Bytes, GREATEST_TARGET, Name, PACK_LIMIT, name_of,
+    BLOB_LIMIT, BLOBS_LIMIT, BlobKind, Bytes, GREATEST_TARGET, MAPPED, Name, PACK_LIMIT, name_of,
 };
 use std::alloc::{AllocError, Global};
 use std::marker::Model;
@@ -66,11 +66,7 @@ impl From<Unsealed> for PackError {
 /// How many bytes a pack has beyond its target, at most.
 const BEYOND: usize = PACK_LIMIT - GREATEST_TARGET as usize;
 
-/// The room of a pack whose target is above 8,388,608. Above 32 MiB the system's allocator maps memory for what asks, and gives it
-/// back to the system once it is let go. Of that only what is touched counts.
-const MAPPED: usize = 34_603_008;
-
-/// How much memory is asked for a pack of this target.
+/// How much memory is asked for a pack of this target: that of one whose target is above a blob's length is mapped for it alone.
 fn room_for(target: u32) -> usize {
     if target as usize > BLOB_LIMIT {
         MAPPED

@@ -2,7 +2,6 @@
 
 ghost use Rattle.std.specs.Prelude.{◌≡◌, [], IfOk, OnErr};
 ghost use Rattle.repo_session.specs.Jobs.{IsShortStep};
-ghost use Rattle.repo_tree.specs.ConfigText.{IsTarget};
 ghost use Rattle.repo_session.specs.Sessions.{who_in};
 ghost use Rattle.repo_prune.specs.PruneStates.{IsFreshPrune, StepsFor, HeedsFor, KnowsAsMuch, FitsPrune};
 
@@ -10,7 +9,7 @@ use crate::deleting::Deleting;
 use crate::moving::Moving;
 use crate::relisting::Relisting;
 use repo_index::Fact;
-use repo_name::{GREATEST_TARGET, Kind, LEAST_TARGET, Token};
+use repo_name::{Kind, LEAST_TARGET, Token};
 use repo_reach::Trees;
 use repo_session::{
     Catalog, Emission, Holder, Job, Roll, Session, SnapshotRoll, Step, Versions, Who,
@@ -59,13 +58,6 @@ pub struct Prune {
     pub stage: Stage,
     pub target: Target,
     pub alloc: Global,
-}
-
-/// How large the packs of a store of this config are to be.
-fn target_of(config: &Config) -> Target
-    ensures { IsTarget config.now.target → result.bytes ≡ config.now.target }
-{
-    Target::of(config.target.clamp(LEAST_TARGET, GREATEST_TARGET) as u32)
 }
 
 impl Prune {
@@ -143,7 +135,7 @@ impl Job for Prune {
     }
 
     fn opened(&mut self, _holder: &Holder, config: &Config) -> Step {
-        self.target = target_of(config);
+        self.target = Target::of_config(config);
         Step::Ask(self.snapshots.page_ask())
     }
 

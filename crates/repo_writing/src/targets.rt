@@ -2,8 +2,11 @@
 
 ghost use Rattle.std.specs.Prelude.{◌≡◌, ◌≤◌, []};
 ghost use Rattle.repo_name.specs.Limits.{greatest_target, least_target};
+ghost use Rattle.repo_tree.specs.ConfigText.{IsTarget};
 
+use repo_name::{GREATEST_TARGET, LEAST_TARGET};
 use repo_pack::PackWriter;
+use repo_tree::Config;
 use std::alloc::Global;
 
 /// The bytes that the blobs of a pack are to reach: 1,024 to 16,777,216.
@@ -20,6 +23,13 @@ impl Target {
         ensures { result.bytes ≡ bytes }
     {
         Target { bytes }
+    }
+
+    /// The target of a store of this config: the nearest one, where the config's isn't one.
+    pub fn of_config(config: &Config) -> Target
+        ensures { IsTarget config.now.target → result.bytes ≡ config.now.target }
+    {
+        Target::of(config.target.clamp(LEAST_TARGET, GREATEST_TARGET) as u32)
     }
 
     /// A pack with no blob.

@@ -1,4 +1,4 @@
-use Rattle.std.proofs.Common.{rules, arith, ◌≡◌, [], refl, sym, ap, subst, inl, ◌∙◌}
+use Rattle.std.proofs.Common.{◌≡◌, [], refl, sym, ap, subst, inl, ◌∙◌}
 use Rattle.repo_session.specs.Order.{opened, IsWorking}
 use Rattle.repo_session.specs.Traces.{Trace}
 use Rattle.repo_session.proofs.Cataloguing.{catalog_fresh}
@@ -19,7 +19,7 @@ returns-clause-begins c = λ text fresh reads known.
     let es : Trace = opened task holding.token text in
     let b = c.new.result in
     let work = c.new.ensures.work in
-    let aim : c.of-target.result.bytes ≡ config.target = let bounds = reads.allowed.1 in search (rules, arith) in
+    let aim : c.of_config-target.result.bytes ≡ config.target = c.of_config-target.ensures reads.allowed.1 in
     let begun : HasBegun b es = record {
       config = config;
       has = record { text = text; read = inl (refl, refl); reads = reads; known = most_known config.version holding.who.versions known };

@@ -28,7 +28,7 @@ returns-clause-begins c = λ text fresh reads known.
     let untouched : HasOnlyListed es = record { none_put = λ k. refl; none_deleted = none_deleted_at_first task holding.token text; none_ranged = opened_unranged task holding.token text } in
     let next = c.page_ask.result in
     let listing : IsListingOf Kind.Snapshot next = subst (λ k. IsListingOf k next) due.knows.of_kind (roll_listing old.snapshots.roll next es due.knows.rolls) in
-    let new : Prune = record { snapshots = old.snapshots; catalog = old.catalog; packs = old.packs; stage = old.stage; target = c.target_of-self.result; alloc = old.alloc } in
+    let new : Prune = record { snapshots = old.snapshots; catalog = old.catalog; packs = old.packs; stage = old.stage; target = c.of_config-self.result; alloc = old.alloc } in
     record {
       work = due.work;
       may = due.may;
@@ -47,7 +47,7 @@ returns-clause-begins c = λ text fresh reads known.
         target = (
           config,
           record { text = text; read = inl (refl, refl); reads = reads; known = most_known config.version holding.who.versions known },
-          sym (c.target_of-self.ensures reads.allowed.1),
+          sym (c.of_config-self.ensures reads.allowed.1),
         );
       });
     }
