@@ -4,7 +4,7 @@ import os
 import stat
 import subprocess
 
-from program import Server, matches, told
+from program import DEVICE, TICKET, Server, matches, token, told
 from trying import OPTIONS, WAIT, same
 from yards import CREATED, FAILED, SMALL, in_folder, in_store
 
@@ -190,3 +190,20 @@ def numbers_out_of_bounds_make_no_store(yard):
         same((run.returncode, run.stdout, run.stderr != ""), (2, "", True), f"--min {value!r}")
     yard.holds("", 0)
     same(matches(told("init", yard.at("store"), "--min", 64, "--max", 64, "--bits", 32, "--target", 1024), CREATED) != (), True)
+
+
+@in_folder
+def a_store_made_again_gives_no_number_twice(yard):
+    """Its config is lost: `init` puts one, and keeps the ledger as it is, also one that is no ledger's."""
+    inits(yard, CREATED)
+    yard.serves(TICKET, "0||", token(1))
+    was = yard.at("ledger").read_bytes()
+    yard.removes("config")
+    inits(yard, CREATED)
+    same(yard.at("ledger").read_bytes(), was, "ledger")
+    yard.serves(TICKET, "0||", token(2))
+    yard.removes("config")
+    yard.writes("ledger", "mine")
+    inits(yard, CREATED)
+    yard.has("ledger", "mine")
+    yard.serves(TICKET, "0||", DEVICE)

@@ -17,6 +17,7 @@ use Rattle.repo_feeding.specs.FedRules.{IsAsTold, IsOnTheWay, IsFedLate, AreWelc
 use Rattle.repo_feeding.specs.Reasons.{IsReason, HasReason}
 use Rattle.repo_feeding.specs.Sources.{Told, whole_of, IsAt, IsWithin}
 use Rattle.repo_feeding.specs.Unfed.{unfed}
+use Rattle.repo_feeding.specs.declared.fed_backups.FedBackup.{FedBackup}
 use Rattle.repo_feeding.specs.declared.reasons.GivenUp.{GivenUp}
 
 -- what it was made for: who asks, and all that its source was made to give, where that is known
@@ -36,6 +37,10 @@ pub record Feeder : Type 1 where
 -- of a source that failed for such reasons, with the reason why it was given up
 abbrev pub feeder : {E : Type 0} → PieceBackup → Option Told → List ℕ → (E → Type 0) → Option (GivenUp E) → Feeder
 feeder backup told rest failed given_up = record { backup = backup; told = told; rest = rest; gave = is_some given_up; cause = λ p. HasReason failed (whole_of told) p given_up }
+
+-- one as it stands, by what its source was told and why that failed
+abbrev pub feeder_of : {S E : Type 0} → (S → Option Told) → (S → E → Type 0) → FedBackup S E → Feeder
+feeder_of told failed b = feeder b.backup (told b.source) b.room (failed b.source) b.given_up
 
 abbrev pub job_of : Feeder → FedJob
 job_of f = record { who = who_in f.backup.session; whole = whole_of f.told }

@@ -10,7 +10,7 @@ ghost use Rattle.repo_session.specs.Traces.{Trace};
 ghost use Rattle.repo_session.specs.declared.outcomes.End.{End};
 ghost use Rattle.repo_session.specs.declared.outcomes.Outcome.{Outcome};
 ghost use Rattle.repo_backup.specs.PieceBackups.{IsHungry};
-ghost use Rattle.repo_feeding.specs.FedStates.{feeder, job_of, fed_job, FitsFed, IsAhead, StandsFed, next_of, ended_of, failing_in, told_reason, IsFedUpto, FeedsOn, FeedsPart, GivesUp, GaveUpAtOnce, FeedsUp};
+ghost use Rattle.repo_feeding.specs.FedStates.{feeder_of, job_of, fed_job, FitsFed, IsAhead, StandsFed, next_of, ended_of, failing_in, told_reason, IsFedUpto, FeedsOn, FeedsPart, GivesUp, GaveUpAtOnce, FeedsUp};
 ghost use Rattle.repo_session.specs.Traces.{fed_in, silent};
 ghost use Rattle.repo_backup.specs.Items.{place_of};
 ghost use Rattle.repo_feeding.specs.Reasons.{IsReason};
@@ -64,8 +64,8 @@ impl<S: Source + Drop> FedBackup<S> {
     /// A backup whose ticket is pending, and that takes its items from this source. It fails for memory alone: it has
     /// room for 65,536 bytes.
     pub fn new(alloc: Global, who: Who, source: S) -> Result<FedBackup<S>, AllocError>
-        ensures fits { IsFresh (S.told source) (S.failed source) → IfOk result (λ b. StandsFed (feeder b.backup (S.told b.source) b.room (S.failed b.source) b.given_up) b.awaited []) }
-        ensures job { IfOk result (λ b. job_of (feeder b.backup (S.told b.source) b.room (S.failed b.source) b.given_up) ≡ fed_job who (S.told source)) }
+        ensures fits { IsFresh (S.told source) (S.failed source) → IfOk result (λ b. StandsFed (feeder_of S.told S.failed b) b.awaited []) }
+        ensures job { IfOk result (λ b. job_of (feeder_of S.told S.failed b) ≡ fed_job who (S.told source)) }
     {
         let room = Room::new(alloc)?;
         Ok(FedBackup {
@@ -94,11 +94,11 @@ impl<S: Source + Drop> FedBackup<S> {
     /// next, nor how many came. While a reply is awaited, of which it was ahead, it is told only that the source failed.
     pub fn given_up(&self) -> Option<&GivenUp<S::Error>>
         ensures same { option_map (λ reason. reason.now) result ≡ told_reason self.now.awaited self.now.given_up }
-        ensures abandoned { (es : Trace) → StandsFed (feeder self.now.backup (S.told self.now.source) self.now.room (S.failed self.now.source) self.now.given_up) self.now.awaited es
+        ensures abandoned { (es : Trace) → StandsFed (feeder_of S.told S.failed self.now) self.now.awaited es
             → ended_of self.now.backup self.now.awaited ≡ Some (Outcome.Ended End.Abandoned) → IsSome result }
-        ensures stored { (es : Trace) (name : Name) (blobs bytes : ℕ) → StandsFed (feeder self.now.backup (S.told self.now.source) self.now.room (S.failed self.now.source) self.now.given_up) self.now.awaited es
+        ensures stored { (es : Trace) (name : Name) (blobs bytes : ℕ) → StandsFed (feeder_of S.told S.failed self.now) self.now.awaited es
             → ended_of self.now.backup self.now.awaited ≡ Some (Outcome.Stored name blobs bytes) → ¬ IsSome result }
-        ensures cause { (es : Trace) (fits : FitsFed (feeder self.now.backup (S.told self.now.source) self.now.room (S.failed self.now.source) self.now.given_up) es) → IfSome result (λ reason. IsReason (S.failed self.now.source) (whole_of (S.told self.now.source)) (place_of (fed_in fits.fs)) reason.now) }
+        ensures cause { (es : Trace) (fits : FitsFed (feeder_of S.told S.failed self.now) es) → IfSome result (λ reason. IsReason (S.failed self.now.source) (whole_of (S.told self.now.source)) (place_of (fed_in fits.fs)) reason.now) }
     {
         match &self.awaited {
             Some(_) => self.failing(),
@@ -138,13 +138,13 @@ impl<S: Source + Drop> FedBackup<S> {
     fn feed_found(&mut self) -> Result<(), GivenUp<S::Error>>
         requires empty { self.old.room ≡ [] }
         requires hungry { IsHungry self.old.backup }
-        ensures ok { OnOk result (FeedsOn (feeder self.old.backup (S.told self.old.source) self.old.room (S.failed self.old.source) self.old.given_up) (feeder self.new.backup (S.told self.new.source) self.new.room (S.failed self.new.source) self.new.given_up)) }
-        ensures err { IfErr result (λ reason. FeedsPart (S.failed self.new.source) reason (feeder self.old.backup (S.told self.old.source) self.old.room (S.failed self.old.source) self.old.given_up) (feeder self.new.backup (S.told self.new.source) self.new.room (S.failed self.new.source) self.new.given_up)) }
+        ensures ok { OnOk result (FeedsOn (feeder_of S.told S.failed self.old) (feeder_of S.told S.failed self.new)) }
+        ensures err { IfErr result (λ reason. FeedsPart (S.failed self.new.source) reason (feeder_of S.told S.failed self.old) (feeder_of S.told S.failed self.new)) }
         ensures known { ¬ IsErrOf result GivenUp.Endless }
         ensures same { self.new.given_up ≡ self.old.given_up }
         ensures fewer { OnOk result (Lessens (S.told self.old.source) self.old.room (S.told self.new.source) self.new.room) }
         ensures hungry { OnErr result (IsHungry self.new.backup) }
-        ensures job { job_of (feeder self.new.backup (S.told self.new.source) self.new.room (S.failed self.new.source) self.new.given_up) ≡ job_of (feeder self.old.backup (S.told self.old.source) self.old.room (S.failed self.old.source) self.old.given_up) }
+        ensures job { job_of (feeder_of S.told S.failed self.new) ≡ job_of (feeder_of S.told S.failed self.old) }
         ensures holder { self.new.backup.session.head.holder ≡ self.old.backup.session.head.holder }
         ensures awaited { self.new.awaited ≡ self.old.awaited }
     {
@@ -165,14 +165,14 @@ impl<S: Source + Drop> FedBackup<S> {
     /// error changes nothing.
     fn feed_next(&mut self) -> Result<(), GivenUp<S::Error>>
         requires { IsHungry self.old.backup }
-        ensures ok { OnOk result (FeedsOn (feeder self.old.backup (S.told self.old.source) self.old.room (S.failed self.old.source) self.old.given_up) (feeder self.new.backup (S.told self.new.source) self.new.room (S.failed self.new.source) self.new.given_up)) }
-        ensures err { IfErr result (λ reason. FeedsPart (S.failed self.new.source) reason (feeder self.old.backup (S.told self.old.source) self.old.room (S.failed self.old.source) self.old.given_up) (feeder self.new.backup (S.told self.new.source) self.new.room (S.failed self.new.source) self.new.given_up)) }
+        ensures ok { OnOk result (FeedsOn (feeder_of S.told S.failed self.old) (feeder_of S.told S.failed self.new)) }
+        ensures err { IfErr result (λ reason. FeedsPart (S.failed self.new.source) reason (feeder_of S.told S.failed self.old) (feeder_of S.told S.failed self.new)) }
         ensures known { ¬ IsErrOf result GivenUp.Endless }
-        ensures kept { self.old.room ≢ [] → OnErr result (FeedsOn (feeder self.old.backup (S.told self.old.source) self.old.room (S.failed self.old.source) self.old.given_up) (feeder self.new.backup (S.told self.new.source) self.new.room (S.failed self.new.source) self.new.given_up)) }
+        ensures kept { self.old.room ≢ [] → OnErr result (FeedsOn (feeder_of S.told S.failed self.old) (feeder_of S.told S.failed self.new)) }
         ensures same { self.new.given_up ≡ self.old.given_up }
         ensures fewer { OnOk result (Lessens (S.told self.old.source) self.old.room (S.told self.new.source) self.new.room) }
         ensures hungry { OnErr result (IsHungry self.new.backup) }
-        ensures job { job_of (feeder self.new.backup (S.told self.new.source) self.new.room (S.failed self.new.source) self.new.given_up) ≡ job_of (feeder self.old.backup (S.told self.old.source) self.old.room (S.failed self.old.source) self.old.given_up) }
+        ensures job { job_of (feeder_of S.told S.failed self.new) ≡ job_of (feeder_of S.told S.failed self.old) }
         ensures holder { self.new.backup.session.head.holder ≡ self.old.backup.session.head.holder }
         ensures awaited { self.new.awaited ≡ self.old.awaited }
     {
@@ -192,8 +192,8 @@ impl<S: Source + Drop> FedBackup<S> {
     /// Gives the backup up, and keeps the reason.
     fn give_up(&mut self, reason: GivenUp<S::Error>)
         requires { IsHungry self.old.backup }
-        ensures up { GivesUp (S.failed self.old.source) reason (feeder self.old.backup (S.told self.old.source) self.old.room (S.failed self.old.source) self.old.given_up) (feeder self.new.backup (S.told self.new.source) self.new.room (S.failed self.new.source) self.new.given_up) }
-        ensures job { job_of (feeder self.new.backup (S.told self.new.source) self.new.room (S.failed self.new.source) self.new.given_up) ≡ job_of (feeder self.old.backup (S.told self.old.source) self.old.room (S.failed self.old.source) self.old.given_up) }
+        ensures up { GivesUp (S.failed self.old.source) reason (feeder_of S.told S.failed self.old) (feeder_of S.told S.failed self.new) }
+        ensures job { job_of (feeder_of S.told S.failed self.new) ≡ job_of (feeder_of S.told S.failed self.old) }
         ensures holder { self.new.backup.session.head.holder ≡ self.old.backup.session.head.holder }
         ensures awaited { self.new.awaited ≡ self.old.awaited }
         ensures kept { (self.new.given_up ≡ Some reason) ⊎ (self.new.given_up ≡ self.old.given_up) }
@@ -208,9 +208,9 @@ impl<S: Source + Drop> FedBackup<S> {
     fn feed_once(&mut self)
         requires { IsHungry self.old.backup }
         ensures cause { GaveUpAtOnce self.old.given_up self.new.given_up }
-        ensures fewer { (es fs : Trace) → IsFedUpto (feeder self.old.backup (S.told self.old.source) self.old.room (S.failed self.old.source) self.old.given_up) es fs → IsHungry self.new.backup → Lessens (S.told self.old.source) self.old.room (S.told self.new.source) self.new.room }
-        ensures goes { FeedsOn (feeder self.old.backup (S.told self.old.source) self.old.room (S.failed self.old.source) self.old.given_up) (feeder self.new.backup (S.told self.new.source) self.new.room (S.failed self.new.source) self.new.given_up) }
-        ensures job { job_of (feeder self.new.backup (S.told self.new.source) self.new.room (S.failed self.new.source) self.new.given_up) ≡ job_of (feeder self.old.backup (S.told self.old.source) self.old.room (S.failed self.old.source) self.old.given_up) }
+        ensures fewer { (es fs : Trace) → IsFedUpto (feeder_of S.told S.failed self.old) es fs → IsHungry self.new.backup → Lessens (S.told self.old.source) self.old.room (S.told self.new.source) self.new.room }
+        ensures goes { FeedsOn (feeder_of S.told S.failed self.old) (feeder_of S.told S.failed self.new) }
+        ensures job { job_of (feeder_of S.told S.failed self.new) ≡ job_of (feeder_of S.told S.failed self.old) }
         ensures holder { self.new.backup.session.head.holder ≡ self.old.backup.session.head.holder }
         ensures awaited { self.new.awaited ≡ self.old.awaited }
     {
@@ -221,9 +221,9 @@ impl<S: Source + Drop> FedBackup<S> {
 
     /// Feeds items until the backup wants no input. Once it was given up, as where its source failed, the source isn't asked.
     fn feed_up(&mut self)
-        ensures up { FeedsUp (feeder self.old.backup (S.told self.old.source) self.old.room (S.failed self.old.source) self.old.given_up) (feeder self.new.backup (S.told self.new.source) self.new.room (S.failed self.new.source) self.new.given_up) }
+        ensures up { FeedsUp (feeder_of S.told S.failed self.old) (feeder_of S.told S.failed self.new) }
         ensures full { ¬ IsHungry self.old.backup → self.new ≡ self.old }
-        ensures job { job_of (feeder self.new.backup (S.told self.new.source) self.new.room (S.failed self.new.source) self.new.given_up) ≡ job_of (feeder self.old.backup (S.told self.old.source) self.old.room (S.failed self.old.source) self.old.given_up) }
+        ensures job { job_of (feeder_of S.told S.failed self.new) ≡ job_of (feeder_of S.told S.failed self.old) }
         ensures holder { self.new.backup.session.head.holder ≡ self.old.backup.session.head.holder }
         ensures awaited { self.new.awaited ≡ self.old.awaited }
     {
@@ -244,9 +244,9 @@ impl<S: Source + Drop> FedBackup<S> {
     /// reply lets go of the pack that is put, and of its memory.
     fn feed_once_ahead(&mut self) -> bool
         requires { IsHungry self.old.backup }
-        ensures goes { FeedsOn (feeder self.old.backup (S.told self.old.source) self.old.room (S.failed self.old.source) self.old.given_up) (feeder self.new.backup (S.told self.new.source) self.new.room (S.failed self.new.source) self.new.given_up) }
+        ensures goes { FeedsOn (feeder_of S.told S.failed self.old) (feeder_of S.told S.failed self.new) }
         ensures waits { IsFalse result → self.new.given_up ≡ self.old.given_up }
-        ensures job { job_of (feeder self.new.backup (S.told self.new.source) self.new.room (S.failed self.new.source) self.new.given_up) ≡ job_of (feeder self.old.backup (S.told self.old.source) self.old.room (S.failed self.old.source) self.old.given_up) }
+        ensures job { job_of (feeder_of S.told S.failed self.new) ≡ job_of (feeder_of S.told S.failed self.old) }
         ensures holder { self.new.backup.session.head.holder ≡ self.old.backup.session.head.holder }
         ensures awaited { self.new.awaited ≡ self.old.awaited }
     {
@@ -264,8 +264,8 @@ impl<S: Source + Drop> FedBackup<S> {
     /// Feeds items ahead of a reply, until the backup wants no input, or as many bytes were fed as may be, or there is no memory for
     /// more bytes.
     fn feed_ahead(&mut self)
-        ensures goes { FeedsOn (feeder self.old.backup (S.told self.old.source) self.old.room (S.failed self.old.source) self.old.given_up) (feeder self.new.backup (S.told self.new.source) self.new.room (S.failed self.new.source) self.new.given_up) }
-        ensures job { job_of (feeder self.new.backup (S.told self.new.source) self.new.room (S.failed self.new.source) self.new.given_up) ≡ job_of (feeder self.old.backup (S.told self.old.source) self.old.room (S.failed self.old.source) self.old.given_up) }
+        ensures goes { FeedsOn (feeder_of S.told S.failed self.old) (feeder_of S.told S.failed self.new) }
+        ensures job { job_of (feeder_of S.told S.failed self.new) ≡ job_of (feeder_of S.told S.failed self.old) }
         ensures holder { self.new.backup.session.head.holder ≡ self.old.backup.session.head.holder }
         ensures awaited { self.new.awaited ≡ self.old.awaited }
     {
@@ -284,10 +284,10 @@ impl<S: Source + Drop> FedBackup<S> {
     /// Takes what was said to this put, of whose reply it was ahead: where it is done it stands right; else it ends by the reply, and
     /// what it did ahead is void.
     fn settle(&mut self, letter: Letter, say: &Say)
-        ensures settles { (es : Trace) → IsAhead (feeder self.old.backup (S.told self.old.source) self.old.room (S.failed self.old.source) self.old.given_up) letter es
-            → (more : Trace) × IsFedUpto (feeder self.new.backup (S.told self.new.source) self.new.room (S.failed self.new.source) self.new.given_up) (silent letter.ask say.now ∷ es) more }
+        ensures settles { (es : Trace) → IsAhead (feeder_of S.told S.failed self.old) letter es
+            → (more : Trace) × IsFedUpto (feeder_of S.told S.failed self.new) (silent letter.ask say.now ∷ es) more }
         ensures awaited { self.new.awaited ≡ self.old.awaited }
-        ensures job { job_of (feeder self.new.backup (S.told self.new.source) self.new.room (S.failed self.new.source) self.new.given_up) ≡ job_of (feeder self.old.backup (S.told self.old.source) self.old.room (S.failed self.old.source) self.old.given_up) }
+        ensures job { job_of (feeder_of S.told S.failed self.new) ≡ job_of (feeder_of S.told S.failed self.old) }
     {
         match say {
             Say::Done => {}
@@ -303,17 +303,17 @@ impl<S: Source + Drop> Client for FedBackup<S> {
     ghost use Rattle.std.specs.Prelude.{[]};
     ghost use Rattle.repo_feeding.specs.FedObedience.{stands_obeys, stands_tells};
     ghost use Rattle.repo_feeding.specs.FedRules.{fed_rule};
-    ghost use Rattle.repo_feeding.specs.FedStates.{FedJob, feeder, job_of, StandsFed, next_of, ended_of, token_of};
+    ghost use Rattle.repo_feeding.specs.FedStates.{FedJob, feeder_of, job_of, StandsFed, next_of, ended_of, token_of};
 
     ghost Job = { FedJob };
 
-    ghost job = { λ b. job_of (feeder b.backup (S.told b.source) b.room (S.failed b.source) b.given_up) };
+    ghost job = { λ b. job_of (feeder_of S.told S.failed b) };
 
     ghost who = { λ j. j.who };
 
     ghost rule = { λ j. fed_rule j.who j.whole };
 
-    ghost fits = { λ b es. StandsFed (feeder b.backup (S.told b.source) b.room (S.failed b.source) b.given_up) b.awaited es };
+    ghost fits = { λ b es. StandsFed (feeder_of S.told S.failed b) b.awaited es };
 
     ghost next = { λ b. next_of b.backup b.awaited };
 
@@ -323,9 +323,9 @@ impl<S: Source + Drop> Client for FedBackup<S> {
 
     ghost token_of = { λ b. token_of b.backup b.awaited };
 
-    ghost obedient = { λ b es fits. stands_obeys (feeder b.backup (S.told b.source) b.room (S.failed b.source) b.given_up) b.awaited es fits };
+    ghost obedient = { λ b es fits. stands_obeys (feeder_of S.told S.failed b) b.awaited es fits };
 
-    ghost ticketed = { λ b es fits. stands_tells (feeder b.backup (S.told b.source) b.room (S.failed b.source) b.given_up) b.awaited es fits };
+    ghost ticketed = { λ b es fits. stands_tells (feeder_of S.told S.failed b) b.awaited es fits };
 
     fn pending(&self) -> Option<&Request> {
         self.request()

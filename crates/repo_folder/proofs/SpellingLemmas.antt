@@ -1,4 +1,4 @@
-use Rattle.std.proofs.Common.{◌≡◌, ◌⊎◌, inl, inr, ◌<◌, ◌≤◌, ℕ, zero, suc, true, List, [], ◌∷◌, length, Option, Some, None, is_some, Result, Ok, Err, IfOk, OnOk, IsErrOf, refl, sym, ap, subst, arith, ◌∙◌, ◌==◌, nat_lt}
+use Rattle.std.proofs.Common.{◌≡◌, ◌⊎◌, inl, inr, ◌<◌, ◌≤◌, ℕ, zero, suc, true, List, [], ◌∷◌, length, Option, Some, None, is_some, Result, Ok, Err, IfOk, OnOk, OnErr, IsErrOf, refl, sym, ap, subst, arith, ◌∙◌, ◌==◌, nat_lt}
 use Rattle.std.proofs.lemmas.Bool.{cases_Bool, eqb-true, eq-eqb, ltb-true, lt-ltb, true≢false}
 use Rattle.std.proofs.lemmas.Option.{none-some}
 use Rattle.std.specs.Cmp.{first_so, second_so}
@@ -262,6 +262,21 @@ told_ok {T} (Ok y) x h = ap (λ r. Ok (value r)) h
     value (Ok z) = z
     value (Err e) = y
 told_ok (Err e) x h = absurd (let k : Err (shelf_error e) ≡ Ok x = h in cc)
+
+-- what a writing call made, as a shelf tells it: it is made; on an error it may be made
+pub made_told : (W : State → State → Type 0) (s t : State) (result : Result (Unit {0}) DiskError) (tells : Result (Unit {0}) ShelfError) → tells ≡ told result → Keeps W s result t
+    → OnOk tells (W s t) × OnErr tells (Stays s t ⊎ W s t)
+made_told W s t result tells e k = subst (λ r. OnOk r (W s t) × OnErr r (Stays s t ⊎ W s t)) (sym e) (made result k)
+  where
+    made : (r : Result (Unit {0}) DiskError) → Keeps W s r t → OnOk (told r) (W s t) × OnErr (told r) (Stays s t ⊎ W s t)
+    made (Ok done) is = (is, tt)
+    made (Err DiskError.Failed) is = (tt, is)
+    made (Err DiskError.Memory) is = (tt, inl is)
+
+-- what is told as an error left all as it was, where the call only reads
+pub read_told : {T : Type 0} (P : T → Type 0) (s t : State) (result : Result T DiskError) → Shows P s result t → Stays s t
+read_told P s t (Ok x) is = is.1
+read_told P s t (Err e) is = is
 
 caused : {T : Type 0} (old new : ℕ) (result : Result T DiskError) → disks.HasCause old result new → HasCause old (told result) new
 caused old new (Ok x) h = h

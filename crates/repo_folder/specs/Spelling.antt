@@ -10,7 +10,8 @@ use Rattle.repo_store.specs.Stores.{Store}
 use Rattle.repo_store.specs.declared.shelves.ShelfError.{ShelfError}
 use Rattle.repo_disk.specs.declared.disks.DiskError.{DiskError}
 use Rattle.repo_disk.specs.declared.rooms.Room.{Room}
-use Rattle.repo_folder.specs.Folders.{IsKept}
+use Rattle.repo_disk.specs.Disks.{State}
+use Rattle.repo_folder.specs.Folders.{IsKept, Puts}
 use Rattle.repo_folder.specs.Ledgers.{first_of, tokens_in}
 
 -- what each name in each folder has
@@ -55,6 +56,10 @@ HasLedger files = (l : Tokens) × IsLedger l × (files Room.Top ledger_name ≡ 
 pub record IsBegun (files : Files) : Type 0 where
   pub ledger : (files Room.Top ledger_name ≡ None) ⊎ (files Room.Top ledger_name ≡ Some (ledger_bytes start))
   pub others : (r : Room) (n : List ℕ) → IsKept r → ((r ≡ Room.Top) × (n ≡ ledger_name)) ⊎ (files r n ≡ None)
+
+-- a fresh ledger is put where there is none; else nothing changes
+abbrev pub BeginsLedger : State → State → Type 0
+BeginsLedger = Puts Room.Top ledger_name (ledger_bytes start)
 
 -- what a disk's failure is to a shelf
 abbrev pub shelf_error : DiskError → ShelfError

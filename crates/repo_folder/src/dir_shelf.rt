@@ -46,6 +46,7 @@ fn slice_of(part: Part) -> Slice
 /// The ledger of a file, if there is one. It is `Fault` only where the bytes are no ledger's.
 fn ledger_of(alloc: Global, file: Option<Bytes>) -> Result<Ledger, ShelfError>
     ensures ok { (l : Tokens) → IsLedger l → file ≡ Some (ledger_bytes l) → IfOk result (λ ledger. ledger ≡ l) }
+    ensures read { IfOk result (λ ledger. IsLedger ledger × (file ≡ Some (ledger_bytes ledger))) }
     ensures fault { IsErrOf result ShelfError.Fault → (l : Tokens) → IsLedger l → file ≢ Some (ledger_bytes l) }
 {
     let Some(bytes) = file else {

@@ -23,9 +23,9 @@ pub enum Standing {
 #[derive(Debug, Drop)]
 pub struct Folder<D> {
     pub disk: D,
-    pub standing: Standing,
+    pub(crate) standing: Standing,
     /// Whether a change failed since it was opened.
-    pub has_failed: bool,
+    pub(crate) has_failed: bool,
 }
 
 impl<D: Disk> Folder<D> {

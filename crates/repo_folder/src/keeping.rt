@@ -1,6 +1,6 @@
 //! Files are written into a store's folder, and removed there, so that what is told lasts.
 
-ghost use Rattle.std.specs.Prelude.{◌≡◌, ◌≤◌, ℕ, List, Some, None, true, OnOk, OnErr};
+ghost use Rattle.std.specs.Prelude.{◌≡◌, ◌≤◌, ◌⊎◌, ◌↔◌, ℕ, List, Some, None, true, false, IsErr, OnOk, OnErr};
 ghost use Rattle.repo_disk.specs.Disks.{HasCause, ChangesDrafts, Makes, Places};
 ghost use Rattle.repo_disk.specs.declared.rooms.Room.{Room};
 ghost use Rattle.repo_folder.specs.Folders.{IsKept, IsHonest, Stays, Comes, Puts, Keeps, noted};
@@ -69,6 +69,7 @@ impl<D: Disk> Folder<D> {
     fn note(&mut self, is_made: bool, synced: &Result<(), DiskError>)
         ensures disk { self.new.disk ≡ self.old.disk }
         ensures standing { self.new.standing ≡ noted synced.now }
+        ensures failed { (self.new.has_failed ≡ true) ↔ ((self.old.has_failed ≡ true) ⊎ ((is_made ≡ false) ⊎ IsErr synced.now)) }
     {
         self.standing = noted(synced);
         if !is_made || synced.is_err() {

@@ -1,7 +1,7 @@
 //! A store's folder after the power was cut, or its program was killed.
 
 ghost use Rattle.std.specs.Prelude.{◌≡◌, IfOk};
-ghost use Rattle.repo_folder.specs.Folders.{IsHonest};
+ghost use Rattle.repo_folder.specs.Folders.{IsHonest, Stays};
 ghost use Rattle.repo_folder.specs.Spelling.{spelled, HasLedger};
 ghost use Rattle.repo_folder.specs.declared.folders.Standing.{Standing};
 
@@ -20,6 +20,7 @@ impl<D: Disk + Drop> DirShelf<D> {
             (λ shelf. IsHonest (D.faithful shelf.folder.disk) shelf.folder.standing (D.state shelf.folder.disk) × HasLedger (D.state shelf.folder.disk).fate) }
         ensures same { IsHonest (D.faithful disk) Standing.Unsettled (D.state disk)
             → IfOk result (λ shelf. spelled (D.state shelf.folder.disk).fate ≡ spelled (D.state disk).fate) }
+        ensures stays { IsHonest (D.faithful disk) Standing.Unsettled (D.state disk) → IfOk result (λ shelf. Stays (D.state disk) (D.state shelf.folder.disk)) }
         ensures settled { IfOk result (λ shelf. shelf.folder.standing ≡ Standing.Settled) }
     {
         let mut folder = Folder::of(disk);

@@ -1,8 +1,8 @@
 //! A store's folder is opened, or made.
 
-ghost use Rattle.std.specs.Prelude.{◌≡◌, IfOk, OnOk};
-ghost use Rattle.repo_folder.specs.Folders.{IsHonest, IsMade};
-ghost use Rattle.repo_folder.specs.Spelling.{spelled, HasLedger, IsBegun};
+ghost use Rattle.std.specs.Prelude.{◌≡◌, ◌⊎◌, IfOk, OnOk, OnErr};
+ghost use Rattle.repo_folder.specs.Folders.{IsHonest, IsMade, Stays};
+ghost use Rattle.repo_folder.specs.Spelling.{spelled, HasLedger, IsBegun, BeginsLedger};
 ghost use Rattle.repo_folder.specs.declared.folders.Standing.{Standing};
 ghost use Rattle.repo_store.specs.Stores.{empty};
 
@@ -51,12 +51,16 @@ where
     Ok(Folder::of(disk))
 }
 
-/// Keeps a fresh ledger, where there is none.
+/// Keeps a fresh ledger, where there is none; else nothing changes.
 fn begin_ledger<D: Disk>(folder: &mut Folder<D>, alloc: Global) -> Result<(), ShelfError>
     ensures honest { IsHonest (D.faithful folder.old.disk) folder.old.standing (D.state folder.old.disk)
         → IsHonest (D.faithful folder.new.disk) folder.new.standing (D.state folder.new.disk) }
     ensures begun { IsHonest (D.faithful folder.old.disk) folder.old.standing (D.state folder.old.disk) → IsBegun (D.state folder.old.disk).fate
         → OnOk result (HasLedger (D.state folder.new.disk).fate × (spelled (D.state folder.new.disk).fate ≡ empty)) }
+    ensures ok { IsHonest (D.faithful folder.old.disk) folder.old.standing (D.state folder.old.disk)
+        → OnOk result (BeginsLedger (D.state folder.old.disk) (D.state folder.new.disk)) }
+    ensures err { IsHonest (D.faithful folder.old.disk) folder.old.standing (D.state folder.old.disk)
+        → OnErr result (Stays (D.state folder.old.disk) (D.state folder.new.disk) ⊎ BeginsLedger (D.state folder.old.disk) (D.state folder.new.disk)) }
 {
     if told(folder.has(Room::Top, LEDGER))? {
         return Ok(());
@@ -67,10 +71,12 @@ fn begin_ledger<D: Disk>(folder: &mut Folder<D>, alloc: Global) -> Result<(), Sh
 
 impl<D: Disk + Drop> DirShelf<D> {
     /// The shelf of a store that is made on this disk, where nothing is kept yet but what a making that was cut off
-    /// left: its folders and, last, a fresh ledger.
+    /// left: its folders and, last, a fresh ledger. A ledger that is there, whatever it is, stays, and so does all else.
     pub fn create(disk: D, alloc: Global) -> Result<DirShelf<D>, ShelfError>
         ensures honest { IsHonest (D.faithful disk) Standing.Unsettled (D.state disk) → IsBegun (D.state disk).fate → IfOk result
             (λ shelf. IsHonest (D.faithful shelf.folder.disk) shelf.folder.standing (D.state shelf.folder.disk) × HasLedger (D.state shelf.folder.disk).fate) }
+        ensures makes { IsHonest (D.faithful disk) Standing.Unsettled (D.state disk) → IfOk result
+            (λ shelf. IsHonest (D.faithful shelf.folder.disk) shelf.folder.standing (D.state shelf.folder.disk) × BeginsLedger (D.state disk) (D.state shelf.folder.disk)) }
         ensures empty { IsHonest (D.faithful disk) Standing.Unsettled (D.state disk) → IsBegun (D.state disk).fate
             → IfOk result (λ shelf. spelled (D.state shelf.folder.disk).fate ≡ empty) }
     {

@@ -15,7 +15,7 @@ use Rattle.repo_store.proofs.RunLemmas.{run_on}
 use Rattle.repo_store.proofs.ServiceLemmas.{causes_on}
 use Rattle.repo_hall.specs.declared.guests.Guest.{Guest}
 use Rattle.repo_hall.specs.Guests.{GuestAnswered, GuestRests, GuestGoes, IsGuest, IsNewGuest, out_of}
-use Rattle.repo_hall.specs.Halls.{Hosted, Housed, Stands, AnswerAdds}
+use Rattle.repo_hall.specs.Halls.{Hosted, Housed, Stands, AnswerAdds, LeavesOthers, StaysGuest}
 use Rattle.repo_hall.specs.Happenings.{Happening, Brought, Answered, Given, Log, Stay, IsStay, all_asked, all_replies, no_stay, going_on, stay, whose}
 use Rattle.repo_hall.proofs.Staying.{IsDue, empty_stay, guest_stay, new_guest, guest_answers, guest_rests, guest_brought, guest_gave, get_set, housed_set, housed_on, stays_on}
 
@@ -55,6 +55,20 @@ get_own xs k y g h = own (get_set xs k y k g h) where
   own : ((k ≡ k) × (g ≡ y)) ⊎ ((k ≢ k) × (slice_get xs k ≡ Some g)) → g ≡ y
   own (inl e) = e.1
   own (inr e) = absurd (e.0 refl)
+
+-- the others of a table in which one was set
+pub set_others : (xs : List Guest) (k : ℕ) (y : Guest) → LeavesOthers xs k (slice_set xs k y)
+set_others [] k y j other = refl
+set_others (x ∷ xs) zero y zero other = absurd (other refl)
+set_others (x ∷ xs) zero y (suc j) other = refl
+set_others (x ∷ xs) (suc k) y zero other = refl
+set_others (x ∷ xs) (suc k) y (suc j) other = set_others xs k y j (λ e. other (ap suc e))
+
+-- the number of one that was set in the place of another one of that number
+pub set_number : (xs : List Guest) (k : ℕ) (d y : Guest) → slice_get xs k ≡ Some d → y.number ≡ d.number → StaysGuest xs k (slice_set xs k y)
+set_number xs k d y at same g h found now =
+    let was : d ≡ g = cc (at, found) in
+    ap (λ (x : Guest). x.number) (get_own xs k y h now) ∙ same ∙ ap (λ (x : Guest). x.number) was
 
 -- a table in which one was set that was there already
 pub set_same : (xs : List Guest) (k : ℕ) (d : Guest) → slice_get xs k ≡ Some d → slice_set xs k d ≡ xs

@@ -1,5 +1,5 @@
 -- How a hall stands after what happened.
-use Rattle.std.specs.Prelude.{◌≡◌, ◌⊎◌, ◌≤◌, ◌<◌, ◌++◌, ◌∷◌, ℕ, Bool, true, false, List, Option, Some, Result, Ok, Err, slice_get}
+use Rattle.std.specs.Prelude.{◌≡◌, ◌≢◌, ◌⊎◌, ◌≤◌, ◌<◌, ◌++◌, ◌∷◌, ℕ, Bool, true, false, List, Option, Some, Result, Ok, Err, slice_get}
 use Rattle.repo_wire.specs.declared.messages.Reply.{Reply}
 use Rattle.repo_wire.specs.declared.messages.Request.{Request}
 use Rattle.repo_wire.specs.Messages.{requests}
@@ -53,6 +53,14 @@ AnswerAdds guests place (Err ServiceError.Limit) log next = ⊥
 abbrev pub AnswersAt : Hall → ℕ → Store → ℕ → Result Bool ServiceError → Hall → Store → ℕ → Type 0
 AnswersAt old place mid k result new to l = (from : Store) (failed : ℕ) (log : Log) → Stands from failed old.guests.items old.entered log mid k
     → (next : Log) × AnswerAdds old.guests.items place result log next × Stands from failed new.guests.items new.entered next to l
+
+-- the guests at all other places are as they were
+abbrev pub LeavesOthers : List Guest → ℕ → List Guest → Type 0
+LeavesOthers old place new = (j : ℕ) → j ≢ place → slice_get new j ≡ slice_get old j
+
+-- the guest at a place is the one that was there
+abbrev pub StaysGuest : List Guest → ℕ → List Guest → Type 0
+StaysGuest old place new = (g h : Guest) → slice_get old place ≡ Some g → slice_get new place ≡ Some h → h.number ≡ g.number
 
 -- from wherever a hall stands, this happens to the guest at a place, and to the store nothing
 abbrev pub HappensAt : (ℕ → Happening) → Hall → ℕ → Hall → Type 0

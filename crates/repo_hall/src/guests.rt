@@ -95,6 +95,7 @@ impl Guest {
         ensures cause { AnswerCause self.old result }
         ensures still { IfOk result (λ some. IsFalse some → (self.new ≡ self.old) × (shelf.new ≡ shelf.old)) }
         ensures over { IsErr result → self.new.ended ≡ true }
+        ensures number { self.new.number ≡ self.old.number }
         ensures honest { S.honest shelf.old → S.honest shelf.new }
     {
         if self.ended || !self.out().is_empty() {

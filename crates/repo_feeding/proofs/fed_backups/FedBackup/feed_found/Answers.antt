@@ -1,7 +1,7 @@
 use Rattle.std.proofs.Common.{arith, sym, ap, subst, inl, inr}
 use Rattle.repo_session.specs.Traces.{feeding, fed_in}
 use Rattle.repo_backup.specs.Items.{Place, fed_of, fed_part, place_of, size_of}
-use Rattle.repo_feeding.specs.FedStates.{feeder, IsFedUpto}
+use Rattle.repo_feeding.specs.FedStates.{feeder_of, IsFedUpto}
 use Rattle.repo_feeding.specs.Reasons.{HasReason}
 use Rattle.repo_feeding.specs.Sources.{whole_of}
 use Rattle.repo_feeding.proofs.Feeding.{standing, bytes_found, fed_found_item, fed_none, fills_whole, found_next, found_none, found_some, no_reason, sound_of, reason_so}
@@ -12,7 +12,7 @@ use Rattle.repo_feeding.proofs.fed_backups.FedBackup.feed_found.Goals as goal
 pub returns-in-None-clause-ok : goal.returns-in-None-clause-ok
 returns-in-None-clause-ok g c = λ es fs upto. (
     let old = c.args.self.now in
-    let f = feeder old.backup (g.S.Source.told old.source) old.room (g.S.Source.failed old.source) old.given_up in
+    let f = feeder_of g.S.Source.told g.S.Source.failed old in
     let told = g.S.Source.told c.fill.new.source in
     let failed = g.S.Source.failed c.fill.new.source in
     let none = no_reason f es fs c.requires.hungry upto.fed in
@@ -23,7 +23,7 @@ returns-in-None-clause-ok g c = λ es fs upto. (
 pub returns-in-Ok-feed-clause-ok : goal.returns-in-Ok-feed-clause-ok
 returns-in-Ok-feed-clause-ok g c = λ es fs upto. (
     let old = c.args.self.now in
-    let f = feeder old.backup (g.S.Source.told old.source) old.room (g.S.Source.failed old.source) old.given_up in
+    let f = feeder_of g.S.Source.told g.S.Source.failed old in
     let told = g.S.Source.told c.fill.new.source in
     let failed = g.S.Source.failed c.fill.new.source in
     let none = no_reason f es fs c.requires.hungry upto.fed in
@@ -39,7 +39,7 @@ returns-in-Ok-feed-clause-ok g c = λ es fs upto. (
 pub returns-in-Err-clause-err : goal.returns-in-Err-clause-err
 returns-in-Err-clause-err g c = λ es fs upto. (
     let old = c.args.self.now in
-    let f = feeder old.backup (g.S.Source.told old.source) old.room (g.S.Source.failed old.source) old.given_up in
+    let f = feeder_of g.S.Source.told g.S.Source.failed old in
     let told = g.S.Source.told c.fill.new.source in
     let failed = g.S.Source.failed c.fill.new.source in
     let none = no_reason f es fs c.requires.hungry upto.fed in
@@ -49,7 +49,7 @@ returns-in-Err-clause-err g c = λ es fs upto. (
 pub returns-clause-err : goal.returns-clause-err
 returns-clause-err g c = λ es fs upto. (
     let old = c.args.self.now in
-    let f = feeder old.backup (g.S.Source.told old.source) old.room (g.S.Source.failed old.source) old.given_up in
+    let f = feeder_of g.S.Source.told g.S.Source.failed old in
     let told = g.S.Source.told c.fill.new.source in
     let failed = g.S.Source.failed c.fill.new.source in
     let none = no_reason f es fs c.requires.hungry upto.fed in

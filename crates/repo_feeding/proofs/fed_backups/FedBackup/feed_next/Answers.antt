@@ -5,7 +5,7 @@ use Rattle.repo_session.specs.Feeds.{fed_bytes}
 use Rattle.repo_session.specs.Traces.{feeding, fed_in}
 use Rattle.repo_backup.specs.Items.{ItemFault, MayTake, Place, place_of}
 use Rattle.repo_backup.specs.PieceBackups.{FitsPieces}
-use Rattle.repo_feeding.specs.FedStates.{feeder, IsFedUpto}
+use Rattle.repo_feeding.specs.FedStates.{feeder_of, IsFedUpto}
 use Rattle.repo_feeding.specs.Reasons.{HasReason}
 use Rattle.repo_feeding.specs.Sources.{whole_of}
 use Rattle.repo_feeding.specs.inner.Rooms.{Lessens}
@@ -16,7 +16,7 @@ use Rattle.repo_feeding.proofs.fed_backups.FedBackup.feed_next.Goals as goal
 pub returns-in-Ok-clause-ok : goal.returns-in-Ok-clause-ok
 returns-in-Ok-clause-ok g c = λ es fs upto. (
     let old = c.args.self.now in
-    let f = feeder old.backup (g.S.Source.told old.source) old.room (g.S.Source.failed old.source) old.given_up in
+    let f = feeder_of g.S.Source.told g.S.Source.failed old in
     let failed = g.S.Source.failed old.source in
     let none = no_reason f es fs c.requires upto.fed in
     let sound = sound_of failed (whole_of f.told) (place_of (fed_in fs)) old.given_up none (upto.caused (inr (inl c.requires.1))) in
@@ -32,7 +32,7 @@ returns-in-Ok-clause-ok g c = λ es fs upto. (
 pub returns-in-Err-clause-err : goal.returns-in-Err-clause-err
 returns-in-Err-clause-err g c = λ es fs upto. (
     let old = c.args.self.now in
-    let f = feeder old.backup (g.S.Source.told old.source) old.room (g.S.Source.failed old.source) old.given_up in
+    let f = feeder_of g.S.Source.told g.S.Source.failed old in
     let failed = g.S.Source.failed old.source in
     let none = no_reason f es fs c.requires upto.fed in
     let sound = sound_of failed (whole_of f.told) (place_of (fed_in fs)) old.given_up none (upto.caused (inr (inl c.requires.1))) in
@@ -56,7 +56,7 @@ returns-in-Ok-clause-fewer g c =
 pub returns-in-Err-clause-kept : goal.returns-in-Err-clause-kept
 returns-in-Err-clause-kept g c = λ some es fs upto. (
     let old = c.args.self.now in
-    let f = feeder old.backup (g.S.Source.told old.source) old.room (g.S.Source.failed old.source) old.given_up in
+    let f = feeder_of g.S.Source.told g.S.Source.failed old in
     (fs, upto_still f c.feed.new.self es fs (c.in-Err.ensures.stays fs upto.fed.at) c.in-Err.ensures.next.1 upto))
 
 pub returns-then-is_empty-clause-kept : goal.returns-then-is_empty-clause-kept

@@ -2,7 +2,7 @@ use Rattle.std.specs.Prelude.{◌-◌, ◌^◌}
 use Rattle.std.proofs.Common.{arith, ◌≤◌, refl, inl, inr, ◌∙◌}
 use Rattle.repo_session.specs.Traces.{fed_in}
 use Rattle.repo_backup.specs.Items.{place_of}
-use Rattle.repo_feeding.specs.FedStates.{feeder}
+use Rattle.repo_feeding.specs.FedStates.{feeder, feeder_of}
 use Rattle.repo_feeding.specs.Sources.{whole_of}
 use Rattle.repo_feeding.proofs.Feeding.{hungry_less, no_reason, sound_of}
 use Rattle.repo_feeding.proofs.Places.{less_endless, less_on}
@@ -11,7 +11,7 @@ use Rattle.repo_feeding.proofs.fed_backups.FedBackup.feed_up.Goals as goal
 pub loop-turn-init : goal.loop-turn-init
 loop-turn-init g c =
     let s = c.args.self.now in
-    let f = feeder s.backup (g.S.Source.told s.source) s.room (g.S.Source.failed s.source) s.given_up in
+    let f = feeder_of g.S.Source.told g.S.Source.failed s in
     record { goes = λ es fs upto. (fs, upto); less = λ es fs upto hungry. hungry_less f s.backup es fs hungry upto; full = λ none. refl; still = λ none. none; job = refl; holder = refl; awaited = refl }
 
 pub loop-turn-preserved : goal.loop-turn-preserved

@@ -1,18 +1,18 @@
 use Rattle.std.proofs.Common.{◌≡◌}
 use Rattle.repo_backup.specs.PieceBackups.{IsHungry}
-use Rattle.repo_feeding.specs.FedStates.{feeder, job_of, FeedsOn, IsFedUpto}
+use Rattle.repo_feeding.specs.FedStates.{feeder_of, job_of, FeedsOn, IsFedUpto}
 use Rattle.repo_feeding.specs.inner.Rooms.{IsLessBy}
 use Rattle.repo_session.specs.Traces.{Trace}
 use Rattle.repo_feeding.proofs.fed_backups.FedBackup.feed_up.Given as goal
 
 abbrev pub invariant-loop-turn : goal.invariant-loop-turn
 invariant-loop-turn g l = record {
-  goes : FeedsOn (feeder l.fn.self.backup (g.S.Source.told l.fn.self.source) l.fn.self.room (g.S.Source.failed l.fn.self.source) l.fn.self.given_up) (feeder l.self.backup (g.S.Source.told l.self.source) l.self.room (g.S.Source.failed l.self.source) l.self.given_up);
-  less : (es fs : Trace) → IsFedUpto (feeder l.fn.self.backup (g.S.Source.told l.fn.self.source) l.fn.self.room (g.S.Source.failed l.fn.self.source) l.fn.self.given_up) es fs → IsHungry l.self.backup
+  goes : FeedsOn (feeder_of g.S.Source.told g.S.Source.failed l.fn.self) (feeder_of g.S.Source.told g.S.Source.failed l.self);
+  less : (es fs : Trace) → IsFedUpto (feeder_of g.S.Source.told g.S.Source.failed l.fn.self) es fs → IsHungry l.self.backup
       → IsLessBy l.turn (g.S.Source.told l.self.source) l.self.room;
   full : ¬ IsHungry l.fn.self.backup → l.self ≡ l.fn.self;
   still : ¬ IsHungry l.fn.self.backup → ¬ IsHungry l.self.backup;
-  job : job_of (feeder l.self.backup (g.S.Source.told l.self.source) l.self.room (g.S.Source.failed l.self.source) l.self.given_up) ≡ job_of (feeder l.fn.self.backup (g.S.Source.told l.fn.self.source) l.fn.self.room (g.S.Source.failed l.fn.self.source) l.fn.self.given_up);
+  job : job_of (feeder_of g.S.Source.told g.S.Source.failed l.self) ≡ job_of (feeder_of g.S.Source.told g.S.Source.failed l.fn.self);
   holder : l.self.backup.session.head.holder ≡ l.fn.self.backup.session.head.holder;
   awaited : l.self.awaited ≡ l.fn.self.awaited;
 }

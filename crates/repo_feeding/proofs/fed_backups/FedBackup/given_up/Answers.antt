@@ -1,20 +1,20 @@
 use Rattle.std.proofs.Common.{sym, ◌∙◌}
 use Rattle.repo_session.specs.declared.outcomes.End.{End}
 use Rattle.repo_session.specs.declared.outcomes.Outcome.{Outcome}
-use Rattle.repo_feeding.specs.FedStates.{feeder}
+use Rattle.repo_feeding.specs.FedStates.{feeder_of}
 use Rattle.repo_feeding.proofs.Feeding.{ended_fed, reason_of, not_stored, some_is}
 use Rattle.repo_feeding.proofs.fed_backups.FedBackup.given_up.Goals as goal
 
 pub returns-in-None-clause-abandoned : goal.returns-in-None-clause-abandoned
 returns-in-None-clause-abandoned g c = λ es stands is. (
     let old = c.args.self.now in
-    let f = feeder old.backup (g.S.Source.told old.source) old.room (g.S.Source.failed old.source) old.given_up in
+    let f = feeder_of g.S.Source.told g.S.Source.failed old in
     let fits = ended_fed f old.awaited es (Outcome.Ended End.Abandoned) stands is in
     c.as_ref.ensures.variant ∙ reason_of f es fits.0 fits.1)
 
 pub returns-in-None-clause-stored : goal.returns-in-None-clause-stored
 returns-in-None-clause-stored g c = λ es name blobs bytes stands is some. (
     let old = c.args.self.now in
-    let f = feeder old.backup (g.S.Source.told old.source) old.room (g.S.Source.failed old.source) old.given_up in
+    let f = feeder_of g.S.Source.told g.S.Source.failed old in
     let fits = ended_fed f old.awaited es (Outcome.Stored name blobs bytes) stands is in
     not_stored f es name blobs bytes fits.0 fits.1 (sym c.as_ref.ensures.variant ∙ some_is c.as_ref.result some))

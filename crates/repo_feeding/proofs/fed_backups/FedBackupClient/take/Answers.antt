@@ -3,7 +3,7 @@ use Rattle.std.proofs.lemmas.Result.{err_from_is_err_and}
 use Rattle.repo_wire.specs.declared.messages.Request.{Request}
 use Rattle.repo_session.specs.Clients.{exchange}
 use Rattle.repo_session.specs.Traces.{Trace, silent}
-use Rattle.repo_feeding.specs.FedStates.{feeder, FitsFed, IsFedUpto, StandsFed, next_of}
+use Rattle.repo_feeding.specs.FedStates.{feeder, feeder_of, FitsFed, IsFedUpto, StandsFed, next_of}
 use Rattle.repo_feeding.specs.declared.fed_backups.FedBackup.{FedBackup}
 use Rattle.repo_feeding.proofs.Feeding.{fits_still, heard_ahead, taken_on, well_before}
 use Rattle.repo_feeding.proofs.fed_backups.FedBackupClient.take.Goals.{in-Some, in-None+in_ok-take-in-None}
@@ -14,15 +14,15 @@ returns-clause-taken g c = λ request is answered es stands. (
     let old = c.args.self.now in
     let new = c.feed_up.new.self in
     let say = c.args.reply.now.say in
-    let f = feeder old.backup (g.S.Source.told old.source) old.room (g.S.Source.failed old.source) old.given_up in
-    let now = feeder new.backup (g.S.Source.told new.source) new.room (g.S.Source.failed new.source) new.given_up in
+    let f = feeder_of g.S.Source.told g.S.Source.failed old in
+    let now = feeder_of g.S.Source.told g.S.Source.failed new in
     let hs : Trace = exchange request c.args.reply.now [] ∷ es in
-    let Upto : Trace → FedBackup g.row.S.Denot g.row.S-Error.Denot → Type 0 = λ more s. IsFedUpto (feeder s.backup (g.S.Source.told s.source) s.room (g.S.Source.failed s.source) s.given_up) hs more in
+    let Upto : Trace → FedBackup g.row.S.Denot g.row.S-Error.Denot → Type 0 = λ more s. IsFedUpto (feeder_of g.S.Source.told g.S.Source.failed s) hs more in
     elim c.match-take.branch [
       | in-Some w ↦
           let h = heard_ahead f old.awaited w.in-Some.letter request es (sym c.take.ensures.value ∙ w.in-Some.is) is stands in
           let m = w.settle.ensures.settles es h.0 in
-          let upto : Upto m.0 w.settle.new.self = subst (λ (r : Request). IsFedUpto (feeder w.settle.new.self.backup (g.S.Source.told w.settle.new.self.source) w.settle.new.self.room (g.S.Source.failed w.settle.new.self.source) w.settle.new.self.given_up) (silent r.ask say ∷ es) m.0) h.1 m.1 in
+          let upto : Upto m.0 w.settle.new.self = subst (λ (r : Request). IsFedUpto (feeder_of g.S.Source.told g.S.Source.failed w.settle.new.self) (silent r.ask say ∷ es) m.0) h.1 m.1 in
           let fits = c.feed_up.ensures.up hs m.0 (subst (Upto m.0) (sym w.self-is) upto) in
           let none = c.feed_up.ensures.awaited ∙ ap (λ (s : FedBackup g.row.S.Denot g.row.S-Error.Denot). s.awaited) w.self-is ∙ w.settle.ensures.awaited ∙ c.take.ensures.after in
           subst (λ a. StandsFed now a hs) (sym none) fits

@@ -1,7 +1,7 @@
 use Rattle.std.proofs.Common.{Some, sym, ap, subst, ◌∙◌}
 use Rattle.repo_session.specs.Askers.{Holding}
 use Rattle.repo_backup.proofs.Closing.{none_there}
-use Rattle.repo_feeding.specs.FedStates.{FedJob, feeder, FitsFed, StandsFed, ended_of, token_of}
+use Rattle.repo_feeding.specs.FedStates.{FedJob, feeder, feeder_of, FitsFed, StandsFed, ended_of, token_of}
 use Rattle.repo_feeding.proofs.Feeding.{ahead_on, fits_still, token_put}
 use Rattle.repo_feeding.proofs.fed_backups.FedBackupClient.work_ahead.Goals as goal
 
@@ -9,8 +9,8 @@ pub returns-clause-fits : goal.returns-clause-fits
 returns-clause-fits g c = λ es stands. (
     let old = c.args.self.now in
     let new = c.feed_ahead.new.self in
-    let f = feeder old.backup (g.S.Source.told old.source) old.room (g.S.Source.failed old.source) old.given_up in
-    let now = feeder new.backup (g.S.Source.told new.source) new.room (g.S.Source.failed new.source) new.given_up in
+    let f = feeder_of g.S.Source.told g.S.Source.failed old in
+    let now = feeder_of g.S.Source.told g.S.Source.failed new in
     let fits : FitsFed f es = subst (λ a. StandsFed f a es) (none_there old.awaited (sym c.if-is_some.ensures)) stands in
     subst (λ a. StandsFed now a es) (sym c.feed_ahead.ensures.awaited)
     (ahead_on f c.suppose.new.self now c.in-Some.letter es (sym c.if-is_some-2.ensures) c.in-Some.ensures.supposed fits c.feed_ahead.ensures.goes c.feed_ahead.ensures.holder (ap (λ (j : FedJob). j.whole) c.feed_ahead.ensures.job)))

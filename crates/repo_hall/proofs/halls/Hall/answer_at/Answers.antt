@@ -1,7 +1,7 @@
 use Rattle.std.proofs.Common.{◌≡◌, slice_set, subst, ap, ◌∙◌}
 use Rattle.repo_hall.specs.declared.guests.Guest.{Guest}
 use Rattle.repo_hall.specs.Guests.{AnswerCause}
-use Rattle.repo_hall.proofs.Hosting.{get_there, get_own, set_same, if_ok_then, hall_answers, goes_ran}
+use Rattle.repo_hall.proofs.Hosting.{get_there, get_own, set_same, if_ok_then, hall_answers, goes_ran, set_number, set_others}
 use Rattle.repo_hall.proofs.halls.Hall.answer_at.Goals as goal
 
 pub returns-clause-stands : goal.returns-clause-stands
@@ -40,3 +40,12 @@ pub returns-clause-over : goal.returns-clause-over
 returns-clause-over g c err h found =
     let guests = c.args.self.now.guests.items in
     ap (λ (x : Guest). x.ended) (get_own guests c.args.place c.answer_next.new.self h found) ∙ c.answer_next.ensures.over err
+
+pub returns-clause-others : goal.returns-clause-others
+returns-clause-others g c = set_others c.args.self.now.guests.items c.args.place c.answer_next.new.self
+
+pub returns-clause-guest : goal.returns-clause-guest
+returns-clause-guest g c =
+    let guests = c.args.self.now.guests.items in
+    let old = c.index_mut.result.now in
+    set_number guests c.args.place old c.answer_next.new.self (get_there guests c.args.place old c.requires c.index_mut.ensures.value) c.answer_next.ensures.number

@@ -1,5 +1,5 @@
 use Rattle.std.proofs.Common.{◌≡◌, Result, Ok, Err, OnOk, OnErr}
-use Rattle.repo_hall.proofs.Hosting.{ok_then, err_then, get_there, hall_brings, hall_same}
+use Rattle.repo_hall.proofs.Hosting.{ok_then, err_then, get_there, hall_brings, hall_same, set_number, set_others}
 use Rattle.repo_hall.proofs.halls.Hall.arrives.Goals as goal
 
 pub returns-clause-ok : goal.returns-clause-ok
@@ -17,3 +17,12 @@ returns-clause-err c = err_then c.feed.result _ _ c.feed.ensures.err (λ err.
     let at = get_there guests c.args.place old c.requires c.index_mut.ensures.value in
     let e = c.feed.ensures in
     hall_same guests c.args.self.now.entered c.args.place old c.feed.new.self at err e.number e.out e.ended)
+
+pub returns-clause-others : goal.returns-clause-others
+returns-clause-others c = set_others c.args.self.now.guests.items c.args.place c.feed.new.self
+
+pub returns-clause-guest : goal.returns-clause-guest
+returns-clause-guest c =
+    let guests = c.args.self.now.guests.items in
+    let old = c.index_mut.result.now in
+    set_number guests c.args.place old c.feed.new.self (get_there guests c.args.place old c.requires c.index_mut.ensures.value) c.feed.ensures.number
