@@ -1,5 +1,5 @@
 -- How connections end.
-use Rattle.std.specs.Prelude.{◌≡◌, ◌⊎◌, [], ⊤, ℕ, true, length, List, slice_get, Some}
+use Rattle.std.specs.Prelude.{◌≡◌, ◌⊎◌, [], ⊤, ℕ, true, List, slice_get, Some}
 use Rattle.repo_hall.specs.Guests.{IsNewGuest, out_of}
 use Rattle.repo_hall.specs.declared.guests.Guest.{Guest}
 use Rattle.repo_many.specs.declared.places.Place.{Place}

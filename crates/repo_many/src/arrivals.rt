@@ -3,7 +3,6 @@
 ghost use Rattle.std.specs.Prelude.{◌≡◌};
 ghost use Rattle.repo_many.specs.declared.times.Served.{Served};
 
-use crate::places::{Place, is_free};
 use crate::sockets::Socket;
 use crate::times::Tally;
 use mio::unix::SourceFd;
@@ -31,7 +30,7 @@ pub struct Door {
 
 /// What came of a look for a connection.
 #[derive(Drop)]
-enum Arrival<T: Drop> {
+pub enum Arrival<T: Drop> {
     /// None waits.
     Nobody,
     /// One was taken.
@@ -65,8 +64,8 @@ fn prepare<T: OpenStream + AsRawFd>(poll: &Poll, stream: &T, place: usize) -> io
     )
 }
 
-/// Takes the next connection, if one waits.
-fn accept<L: OpenListener>(
+/// Takes the next connection to this place, if one waits.
+pub fn accept<L: OpenListener>(
     poll: &Poll,
     listener: &L,
     place: usize,
@@ -103,7 +102,7 @@ impl Door {
     }
 
     /// Whether it is time to look for a connection.
-    fn is_time(&self, time: Duration) -> bool {
+    pub fn is_time(&self, time: Duration) -> bool {
         match self.again {
             Some(again) => time >= again,
             None => self.ready,
@@ -118,22 +117,18 @@ impl Door {
         }
     }
 
-    /// Takes a connection to this place, where one waits. One that can't be taken is told as `read failed`
-    /// the first time, and tried again after a pause.
-    fn open<L: OpenListener, F: Write>(
+    /// Notes what came of a look for a connection, and gives the connection if there is one to be served. One
+    /// that can't be taken is told as `read failed` the first time, and tried again after a pause.
+    pub fn note<T: Drop, F: Write>(
         &mut self,
-        poll: &Poll,
-        listener: &L,
-        place: usize,
+        arrival: Arrival<T>,
         time: Duration,
         tally: &mut Tally,
         faults: &mut F,
-    ) -> Option<Socket<L::Stream>>
-    where
-        L::Stream: Read + Write + OpenStream + AsRawFd,
+    ) -> Option<Socket<T>>
         ensures silent { tally.new.served ≡ Served.Well → (tally.old.served ≡ Served.Well) × (faults.new ≡ faults.old) }
     {
-        match accept(poll, listener, place, time) {
+        match arrival {
             Arrival::Nobody => {
                 self.ready = false;
                 self.again = None;
@@ -158,34 +153,6 @@ impl Door {
                 }
                 self.again = Some(time.saturating_add(Duration::from_millis(PAUSE)));
                 None
-            }
-        }
-    }
-
-    /// Takes a connection, where more may be taken, one waits and there is a place for it.
-    pub fn welcome<L: OpenListener, F: Write>(
-        &mut self,
-        poll: &Poll,
-        listener: &L,
-        open: bool,
-        places: &mut Vec<Place<L::Stream>>,
-        time: Duration,
-        tally: &mut Tally,
-        faults: &mut F,
-    )
-    where
-        L::Stream: Read + Write + OpenStream + AsRawFd,
-        ensures silent { tally.new.served ≡ Served.Well → (tally.old.served ≡ Served.Well) × (faults.new ≡ faults.old) }
-    {
-        if !open || !self.is_time(time) {
-            return;
-        }
-        let Some(place) = places.as_slice().iter().position(is_free) else {
-            return;
-        };
-        if let Some(socket) = self.open(poll, listener, place, time, tally, faults) {
-            if let Some(free) = places.get_mut(place) {
-                *free = Place::Taken(socket);
             }
         }
     }

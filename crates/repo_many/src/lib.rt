@@ -16,9 +16,9 @@
 #![tactic(auto)]
 
 mod arrivals;
+mod connections;
 mod large_frames;
 mod places;
-mod rounds;
 mod servers;
 mod sockets;
 mod steps;

@@ -6,10 +6,10 @@ ghost use Rattle.repo_hall.specs.Halls.{Hosted, Stands, HallLeads};
 ghost use Rattle.repo_hall.specs.Happenings.{AreInTurn, Log};
 ghost use Rattle.repo_many.specs.declared.times.Served.{Served};
 
-use crate::arrivals::{Door, watch};
+use crate::arrivals::{Door, accept, watch};
+use crate::connections::Connections;
 use crate::large_frames::LargeFrames;
-use crate::places::{Place, is_in_use, is_taken};
-use crate::rounds::round;
+use crate::places::{Place, is_free, is_in_use, is_taken};
 use crate::sockets::Timing;
 use crate::times::{Served, Tally, Watch};
 use crate::waits::{LISTENER, mark_ready, shorter, wait_for};
@@ -35,15 +35,16 @@ pub struct Manner {
     pub idle: Option<Duration>,
 }
 
-/// What a server works with beside its guests.
+/// A server of a listener's connections.
 #[derive(Drop)]
 struct Server<T: Drop> {
+    manner: Manner,
     poll: Poll,
     events: Events,
-    places: Vec<Place<T>>,
+    connections: Connections<T>,
     door: Door,
-    large: LargeFrames,
     watch: Watch,
+    tally: Tally,
 }
 
 /// A hall of just so many places.
@@ -67,110 +68,128 @@ fn free_places<T: Drop>(alloc: Global, count: usize) -> io::Result<Vec<Place<T>>
     Ok(places)
 }
 
-/// What a server of a listener works with, which none waits for any more.
+/// A server of a listener, which none waits for any more, with this hall.
 fn server_of<R: Net + Clock + AllocGlobal, L: OpenListener + AsRawFd>(
     rt: &R,
     listener: &L,
-    places: usize,
+    manner: Manner,
+    hall: Hall,
 ) -> io::Result<Server<L::Stream>>
 where
     L::Stream: Read + Write + OpenStream + AsRawFd,
+    ensures hall { IfOk result (λ server. server.connections.hall ≡ hall) }
+    ensures well { IfOk result (λ server. server.tally.served ≡ Served.Well) }
 {
     listener.set_nonblocking(true)?;
     let poll = Poll::new(rt)?;
     watch(&poll, listener, LISTENER, Interest::READABLE)?;
     let events = Events::with_capacity(rt.alloc(), 256)?;
+    let connections = Connections {
+        hall,
+        places: free_places(rt.alloc(), manner.at_once)?,
+        large: LargeFrames::new(),
+        piece: room(rt.alloc())?,
+    };
     Ok(Server {
+        manner,
         poll,
         events,
-        places: free_places(rt.alloc(), places)?,
+        connections,
         door: Door::new(),
-        large: LargeFrames::new(),
         watch: Watch::new(Instant::now(rt)?),
+        tally: Tally::new(),
     })
 }
 
 impl<T: Drop> Server<T> {
     /// Whether more connections may be taken.
-    fn is_open(&self, manner: Manner) -> bool {
-        let is_left = self.places.as_slice().iter().any(is_in_use);
-        is_left && self.door.taken < manner.connections
+    fn is_open(&self) -> bool {
+        let is_left = self.connections.places.as_slice().iter().any(is_in_use);
+        is_left && self.door.taken < self.manner.connections
+    }
+
+    /// Whether no more connections may be taken, and the last one left.
+    fn is_over(&self) -> bool {
+        !self.is_open() && !self.connections.places.as_slice().iter().any(is_taken)
     }
 
     /// What the next round knows of the time.
-    fn timing(&self, manner: Manner) -> Timing {
+    fn timing(&self) -> Timing {
         Timing {
             time: self.watch.time,
-            idle: manner.idle,
-            wanted: self.large.wanted,
+            idle: self.manner.idle,
+            wanted: self.connections.large.wanted,
         }
     }
 
     /// Waits until one comes, or a connection is ready, or one was idle for too long; after a round in which
     /// something moved not at all.
-    fn wait(&mut self, timing: Timing, moved: bool) -> io::Result<()> {
-        let mut wait = wait_for(self.places.as_slice(), timing);
+    fn wait(&mut self) -> io::Result<()>
+        ensures hall { self.new.connections.hall ≡ self.old.connections.hall }
+        ensures tally { self.new.tally ≡ self.old.tally }
+    {
+        let timing = self.timing();
+        let mut wait = wait_for(self.connections.places.as_slice(), timing);
         wait = shorter(wait, self.door.pause(timing.time));
-        if moved {
+        if self.tally.moved {
             wait = Some(Duration::ZERO);
         }
         self.poll.poll(&mut self.events, wait)?;
-        if mark_ready(&self.events, &mut self.places) {
+        if mark_ready(&self.events, &mut self.connections.places) {
             self.door.ready = true;
         }
         Ok(())
     }
 }
 
-/// Serves until as many connections came as were to come, and the last one left.
-fn serve_hall<C: Clock, L: OpenListener, S: Shelf, F: Write>(
-    clock: &C,
-    listener: &L,
-    manner: Manner,
-    hall: &mut Hall,
-    server: &mut Server<L::Stream>,
-    piece: &mut [u8],
-    shelf: &mut S,
-    tally: &mut Tally,
-    faults: &mut F,
-) -> io::Result<()>
-where
-    L::Stream: Read + Write + OpenStream + AsRawFd,
-    ensures leads { S.honest shelf.old → HallLeads hall.old (S.store shelf.old) (S.failed shelf.old) hall.new (S.store shelf.new) (S.failed shelf.new) }
-    ensures honest { S.honest shelf.old → S.honest shelf.new }
-    ensures silent { tally.new.served ≡ Served.Well → (tally.old.served ≡ Served.Well) × (faults.new ≡ faults.old) }
-{
-    for turn in 0..u64::MAX {
-        server.watch.go_on(Instant::now(clock)?, tally.moved);
-        tally.moved = false;
-        let open = server.is_open(manner);
-        if !open && !server.places.as_slice().iter().any(is_taken) {
-            return Ok(());
+impl<T: Read + Write + OpenStream + AsRawFd + Drop> Server<T> {
+    /// Takes a connection, where more may be taken, one waits and there is a place for it.
+    fn welcome<L: OpenListener<Stream = T>, F: Write>(&mut self, listener: &L, faults: &mut F)
+        ensures hall { self.new.connections.hall ≡ self.old.connections.hall }
+        ensures silent { self.new.tally.served ≡ Served.Well → (self.old.tally.served ≡ Served.Well) × (faults.new ≡ faults.old) }
+    {
+        let time = self.watch.time;
+        if !self.is_open() || !self.door.is_time(time) {
+            return;
         }
-        let timing = server.timing(manner);
-        server.door.welcome(
-            &server.poll,
-            listener,
-            open,
-            &mut server.places,
-            timing.time,
-            tally,
-            faults,
-        );
-        round(
-            hall,
-            &mut server.places,
-            &mut server.large,
-            piece,
-            shelf,
-            timing,
-            tally,
-            faults,
-        );
-        let timing = server.timing(manner);
-        server.wait(timing, tally.moved)?;
+        let places = self.connections.places.as_slice();
+        let Some(place) = places.iter().position(is_free) else {
+            return;
+        };
+        let arrival = accept(&self.poll, listener, place, time);
+        if let Some(socket) = self.door.note(arrival, time, &mut self.tally, faults) {
+            if let Some(free) = self.connections.places.get_mut(place) {
+                *free = Place::Taken(socket);
+            }
+        }
     }
-    Ok(())
+
+    /// Serves until as many connections came as were to come, and the last one left.
+    fn serve<C: Clock, L: OpenListener<Stream = T>, S: Shelf, F: Write>(
+        &mut self,
+        clock: &C,
+        listener: &L,
+        shelf: &mut S,
+        faults: &mut F,
+    ) -> io::Result<()>
+        ensures leads { S.honest shelf.old → HallLeads self.old.connections.hall (S.store shelf.old) (S.failed shelf.old) self.new.connections.hall (S.store shelf.new) (S.failed shelf.new) }
+        ensures honest { S.honest shelf.old → S.honest shelf.new }
+        ensures silent { self.new.tally.served ≡ Served.Well → (self.old.tally.served ≡ Served.Well) × (faults.new ≡ faults.old) }
+    {
+        for turn in 0..u64::MAX {
+            self.watch.go_on(Instant::now(clock)?, self.tally.moved);
+            self.tally.moved = false;
+            if self.is_over() {
+                return Ok(());
+            }
+            self.welcome(listener, faults);
+            let timing = self.timing();
+            self.connections
+                .round(timing, shelf, &mut self.tally, faults);
+            self.wait()?;
+        }
+        Ok(())
+    }
 }
 
 /// Serves connections of a bound listener, so many in all and so many at once, one request of each in turn,
@@ -200,22 +219,10 @@ where
     ensures honest { S.honest shelf.old → S.honest shelf.new }
     ensures silent { IfOk result (λ served. served ≡ Served.Well → faults.new ≡ faults.old) }
 {
-    let mut server = server_of(rt, listener, manner.at_once)?;
-    let mut piece = room(rt.alloc())?;
-    let Ok(mut hall) = hall_of(rt.alloc(), manner.at_once) else {
+    let Ok(hall) = hall_of(rt.alloc(), manner.at_once) else {
         return Err(io::Error::from(ErrorKind::OutOfMemory));
     };
-    let mut tally = Tally::new();
-    serve_hall(
-        rt,
-        listener,
-        manner,
-        &mut hall,
-        &mut server,
-        piece.as_mut_slice(),
-        shelf,
-        &mut tally,
-        faults,
-    )?;
-    Ok(tally.served)
+    let mut server = server_of(rt, listener, manner, hall)?;
+    server.serve(rt, listener, shelf, faults)?;
+    Ok(server.tally.served)
 }

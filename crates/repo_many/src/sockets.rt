@@ -28,6 +28,15 @@ pub struct Timing {
     pub wanted: bool,
 }
 
+/// A turn of the connection at a place.
+#[derive(Clone, Copy, Debug)]
+pub struct Turn {
+    pub place: usize,
+    /// What it may read.
+    pub room: Room,
+    pub timing: Timing,
+}
+
 /// A connection's socket.
 #[derive(Drop)]
 pub struct Socket<T: Drop> {
@@ -73,31 +82,31 @@ impl<T: Read + Write + Drop> Socket<T> {
     }
 
     /// Goes on with the input of a guest of which more is awaited: a piece is taken, or it ended.
-    fn take_more(&mut self, hall: &mut Hall, place: usize, piece: &mut [u8], room: Room) -> Progress
-        requires place { place < length hall.old.guests.items }
-        requires awaited { (g : Guest) → slice_get hall.old.guests.items place ≡ Some g → IsAwaited g }
-        ensures end { result ≡ Progress.AtEnd → GuestIs IsDone hall.new.guests.items place }
+    fn take_more(&mut self, hall: &mut Hall, turn: Turn, piece: &mut [u8]) -> Progress
+        requires place { turn.place < length hall.old.guests.items }
+        requires awaited { (g : Guest) → slice_get hall.old.guests.items turn.place ≡ Some g → IsAwaited g }
+        ensures end { result ≡ Progress.AtEnd → GuestIs IsDone hall.new.guests.items turn.place }
         ensures leaves { HallLeavesStore hall.old hall.new }
         ensures places { length hall.new.guests.items ≡ length hall.old.guests.items }
     {
         if self.at_end {
-            if hall.is_between(place) {
+            if hall.is_between(turn.place) {
                 return Progress::AtEnd;
             }
             return Progress::Failed(ServeError::Malformed);
         }
-        if room == Room::Barred {
+        if turn.room == Room::Barred {
             return Progress::Barred;
         }
-        let held = hall.held(place);
+        let held = hall.held(turn.place);
         let most = self.wanted(held).min(piece.len());
-        let taken = take(hall, place, &mut piece[..most], &mut self.stream);
+        let taken = take(hall, turn.place, &mut piece[..most], &mut self.stream);
         if taken == Progress::AtEnd {
             self.at_end = true;
             return Progress::Moved;
         }
         if held < HEAD {
-            let count = hall.held(place).saturating_sub(held).min(most);
+            let count = hall.held(turn.place).saturating_sub(held).min(most);
             self.note_length(&piece[..count]);
         }
         taken
@@ -108,13 +117,12 @@ impl<T: Read + Write + Drop> Socket<T> {
     fn advance<S: Shelf>(
         &mut self,
         hall: &mut Hall,
-        place: usize,
+        turn: Turn,
         piece: &mut [u8],
         shelf: &mut S,
-        room: Room,
     ) -> Progress
-        requires { place < length hall.old.guests.items }
-        ensures end { result ≡ Progress.AtEnd → GuestIs IsDone hall.new.guests.items place }
+        requires { turn.place < length hall.old.guests.items }
+        ensures end { result ≡ Progress.AtEnd → GuestIs IsDone hall.new.guests.items turn.place }
         ensures leads { S.honest shelf.old → HallLeads hall.old (S.store shelf.old) (S.failed shelf.old) hall.new (S.store shelf.new) (S.failed shelf.new) }
         ensures honest { S.honest shelf.old → S.honest shelf.new }
         ensures places { length hall.new.guests.items ≡ length hall.old.guests.items }
@@ -122,31 +130,31 @@ impl<T: Read + Write + Drop> Socket<T> {
         if !self.ready {
             return Progress::Still;
         }
-        let given = give(hall, place, &mut self.stream);
-        if given != Progress::Still || !hall.out(place).is_empty() {
+        let given = give(hall, turn.place, &mut self.stream);
+        if given != Progress::Still || !hall.out(turn.place).is_empty() {
             return given;
         }
-        match reply(hall, place, shelf) {
+        match reply(hall, turn.place, shelf) {
             Progress::Still => {
-                if hall.has_ended(place) {
+                if hall.has_ended(turn.place) {
                     return Progress::AtEnd;
                 }
-                self.take_more(hall, place, piece, room)
+                self.take_more(hall, turn, piece)
             }
             replied => replied,
         }
     }
 
     /// What becomes of a connection that stands still: it fails where it does for too long.
-    fn endure(&mut self, hall: &Hall, place: usize, room: Room, timing: Timing) -> Progress
-        requires { place < length hall.now.guests.items }
+    fn endure(&mut self, hall: &Hall, turn: Turn) -> Progress
+        requires { turn.place < length hall.now.guests.items }
         ensures { result ≢ Progress.AtEnd }
     {
         self.ready = false;
-        let idle = timing.time.saturating_sub(self.since);
-        match patience(timing, room) {
+        let idle = turn.timing.time.saturating_sub(self.since);
+        match patience(turn.timing, turn.room) {
             Some(most) if idle >= most => {
-                if hall.out(place).is_empty() {
+                if hall.out(turn.place).is_empty() {
                     return Progress::Failed(ServeError::Read);
                 }
                 Progress::Failed(ServeError::Write)
@@ -159,23 +167,21 @@ impl<T: Read + Write + Drop> Socket<T> {
     pub fn turn<S: Shelf>(
         &mut self,
         hall: &mut Hall,
-        place: usize,
+        turn: Turn,
         piece: &mut [u8],
         shelf: &mut S,
-        room: Room,
-        timing: Timing,
     ) -> Progress
-        requires { place < length hall.old.guests.items }
-        ensures end { result ≡ Progress.AtEnd → GuestIs IsDone hall.new.guests.items place }
+        requires { turn.place < length hall.old.guests.items }
+        ensures end { result ≡ Progress.AtEnd → GuestIs IsDone hall.new.guests.items turn.place }
         ensures leads { S.honest shelf.old → HallLeads hall.old (S.store shelf.old) (S.failed shelf.old) hall.new (S.store shelf.new) (S.failed shelf.new) }
         ensures honest { S.honest shelf.old → S.honest shelf.new }
         ensures places { length hall.new.guests.items ≡ length hall.old.guests.items }
     {
-        let progress = self.advance(hall, place, piece, shelf, room);
+        let progress = self.advance(hall, turn, piece, shelf);
         if progress == Progress::Still {
-            return self.endure(hall, place, room, timing);
+            return self.endure(hall, turn);
         }
-        self.since = timing.time;
+        self.since = turn.timing.time;
         progress
     }
 }

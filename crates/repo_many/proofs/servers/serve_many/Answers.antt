@@ -2,25 +2,22 @@ use Rattle.std.proofs.Common.{◌++◌, []}
 use Rattle.repo_hall.proofs.Hosting.{begins}
 use Rattle.repo_many.proofs.servers.serve_many.Goals as goal
 
-pub returns-in_err-server-clause-hosted : goal.returns-in_err-server-clause-hosted
-returns-in_err-server-clause-hosted g c honest = ([], (begins (g.S.Shelf.store c.args.shelf.now) (g.S.Shelf.failed c.args.shelf.now)).hosted, tt)
-
-pub returns-in_err-piece-clause-hosted : goal.returns-in_err-piece-clause-hosted
-returns-in_err-piece-clause-hosted g c honest = ([], (begins (g.S.Shelf.store c.args.shelf.now) (g.S.Shelf.failed c.args.shelf.now)).hosted, tt)
-
 pub returns-in_default-clause-hosted : goal.returns-in_default-clause-hosted
 returns-in_default-clause-hosted g c honest = ([], (begins (g.S.Shelf.store c.args.shelf.now) (g.S.Shelf.failed c.args.shelf.now)).hosted, tt)
 
-pub returns-in_err-serve_hall-clause-hosted : goal.returns-in_err-serve_hall-clause-hosted
-returns-in_err-serve_hall-clause-hosted g c honest =
+pub returns-in_err-server-clause-hosted : goal.returns-in_err-server-clause-hosted
+returns-in_err-server-clause-hosted g c honest = ([], (begins (g.S.Shelf.store c.args.shelf.now) (g.S.Shelf.failed c.args.shelf.now)).hosted, tt)
+
+pub returns-in_err-serve-clause-hosted : goal.returns-in_err-serve-clause-hosted
+returns-in_err-serve-clause-hosted g c honest =
     let store = g.S.Shelf.store c.args.shelf.now in
     let failed = g.S.Shelf.failed c.args.shelf.now in
-    let x = c.serve_hall.ensures.leads honest store failed [] (c.in-Ok.ensures.stands store failed) tt in
+    let x = c.serve.ensures.leads honest store failed [] (rw c.in_ok-server.ensures.hall (c.in-Ok.ensures.stands store failed)) tt in
     (x.0 ++ [], x.1.hosted, x.2)
 
 pub returns-clause-hosted : goal.returns-clause-hosted
 returns-clause-hosted g c honest =
     let store = g.S.Shelf.store c.args.shelf.now in
     let failed = g.S.Shelf.failed c.args.shelf.now in
-    let x = c.serve_hall.ensures.leads honest store failed [] (c.in-Ok.ensures.stands store failed) tt in
+    let x = c.serve.ensures.leads honest store failed [] (rw c.in_ok-server.ensures.hall (c.in-Ok.ensures.stands store failed)) tt in
     (x.0 ++ [], x.1.hosted, x.2)

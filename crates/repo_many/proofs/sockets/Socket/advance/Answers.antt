@@ -18,7 +18,7 @@ returns-then-has_ended-clause-leads g c honest = leads_on _ _ _ _ _ _ _ _ _ _ _ 
 pub take_more-requires-clause-awaited : goal.take_more-requires-clause-awaited
 take_more-requires-clause-awaited g c h found =
     let still = c.reply.ensures.still c.in-Still.is in
-    let at : slice_get c.give-given.new.hall.guests.items c.args.place ≡ Some h = subst (λ (guests : List Guest). slice_get guests c.args.place ≡ Some h) still.0 found in
+    let at : slice_get c.give-given.new.hall.guests.items c.args.turn.place ≡ Some h = subst (λ (guests : List Guest). slice_get guests c.args.turn.place ≡ Some h) still.0 found in
     let none : length c.out.result.now ≡ 0 = search rules in
     is_awaited h (still.1 h at) (sym (c.has_ended.ensures h found) ∙ c.if-has_ended.false) (sym (c.out.ensures h at) ∙ nil_from_length c.out.result.now none)
 

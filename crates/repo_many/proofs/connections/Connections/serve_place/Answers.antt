@@ -1,5 +1,5 @@
 use Rattle.repo_many.proofs.Leading.{leads_on}
-use Rattle.repo_many.proofs.places.serve_place.Goals as goal
+use Rattle.repo_many.proofs.connections.Connections.serve_place.Goals as goal
 
 pub returns-clause-leads : goal.returns-clause-leads
 returns-clause-leads g c honest = leads_on _ _ _ _ _ _ _ _ _ _ _ _ (c.turn_at-progress.ensures.leads honest) (c.settle.ensures.leaves _ _)

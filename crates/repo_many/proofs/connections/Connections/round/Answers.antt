@@ -1,6 +1,6 @@
 use Rattle.std.proofs.Common.{◌∙◌}
 use Rattle.repo_many.proofs.Leading.{leads_on}
-use Rattle.repo_many.proofs.rounds.round.Goals as goal
+use Rattle.repo_many.proofs.connections.Connections.round.Goals as goal
 
 pub loop-place-preserved : goal.loop-place-preserved
 loop-place-preserved g c = record {

@@ -1,8 +1,0 @@
-use Rattle.std.proofs.Common.{inr}
-use Rattle.repo_many.proofs.places.settle.Goals as goal
-
-pub returns-in-AtEnd-clause-freed : goal.returns-in-AtEnd-clause-freed
-returns-in-AtEnd-clause-freed g c = λ free. inr (c.args.hall.now.entered, c.close_at.ensures.renewed free)
-
-pub returns-in-Failed-clause-freed : goal.returns-in-Failed-clause-freed
-returns-in-Failed-clause-freed g c = λ free. inr (c.args.hall.now.entered, c.close_at-in-Failed.ensures.renewed free)
