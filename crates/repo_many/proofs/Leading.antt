@@ -1,13 +1,13 @@
 -- How what a hall's calls do leads on. A hall is its table of guests here, and the number of the next one.
-use Rattle.std.proofs.Common.{◌≡◌, ◌++◌, ◌∷◌, [], ℕ, List, Some, Bool, true, false, Result, Ok, Err, slice_get, sym, subst, inl, inr}
+use Rattle.std.proofs.Common.{◌≡◌, ◌<◌, ◌++◌, ◌∷◌, [], ℕ, List, Some, Bool, true, false, Result, Ok, Err, length, slice_get, sym, subst, inl, inr, ◌∙◌}
 use Rattle.std.proofs.lemmas.List.{append_assoc}
 use Rattle.repo_store.specs.declared.forms.ServiceError.{ServiceError}
 use Rattle.repo_store.specs.Stores.{Store}
 use Rattle.repo_hall.specs.declared.guests.Guest.{Guest}
-use Rattle.repo_hall.specs.Halls.{AnswerAdds, Stands}
+use Rattle.repo_hall.specs.Halls.{AnswerAdds, LeavesOthers, StaysGuest, Stands}
 use Rattle.repo_hall.specs.Guests.{AnswerCause, IsAwaited}
 use Rattle.repo_hall.specs.Happenings.{Answered, AreInTurn, Brought, Given, Log}
-use Rattle.repo_hall.proofs.Hosting.{answers_at, happens_at, nothing_happens}
+use Rattle.repo_hall.proofs.Hosting.{answers_at, happens_at, nothing_happens, there}
 use Rattle.repo_hall.proofs.Turning.{answers_in_turn, brings_in_turn}
 
 abbrev pub leads : List Guest → ℕ → Store → ℕ → List Guest → ℕ → Store → ℕ → Type 0
@@ -55,3 +55,8 @@ leads_on old entered a k mid between b l new entering c m h g from failed log s 
     let y = g from failed (x.0 ++ log) x.1 x.2 in
     let all = sym (append_assoc y.0 x.0 log) in
     (y.0 ++ x.0, subst (λ z. Stands from failed new entering z c m) all y.1, subst AreInTurn all y.2)
+
+-- where two calls leave the guests so, both do
+pub stays_on : (old mid new : List Guest) (place : ℕ) → place < length mid → LeavesOthers old place mid × StaysGuest old place mid → LeavesOthers mid place new × StaysGuest mid place new
+    → LeavesOthers old place new × StaysGuest old place new
+stays_on old mid new place less first second = (λ j other. second.0 j other ∙ first.0 j other, λ g h at now. (let m = there mid place less in second.1 m.0 h m.1 now ∙ first.1 g m.0 at m.1))

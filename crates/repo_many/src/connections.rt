@@ -2,8 +2,8 @@
 
 ghost use Rattle.std.specs.Prelude.{◌≡◌, ◌≢◌, ◌<◌, length, slice_get, Some};
 ghost use Rattle.repo_hall.specs.Guests.{IsNewGuest};
-ghost use Rattle.repo_hall.specs.Halls.{HallLeads, HallLeavesStore};
-ghost use Rattle.repo_many.specs.Endings.{GuestIs, IsDone, IsFreed, IsOver};
+ghost use Rattle.repo_hall.specs.Halls.{HallLeads, HallLeavesStore, LeavesOthers};
+ghost use Rattle.repo_many.specs.Endings.{GuestIs, IsDone, IsFreed, IsOver, StaysAt};
 ghost use Rattle.repo_many.specs.declared.places.Place.{Place};
 ghost use Rattle.repo_many.specs.declared.steps.Progress.{Progress};
 ghost use Rattle.repo_many.specs.declared.times.Served.{Served};
@@ -38,6 +38,7 @@ impl<T: Read + Write + Drop> Connections<T> {
         ensures leads { S.honest shelf.old → HallLeads self.old.hall (S.store shelf.old) (S.failed shelf.old) self.new.hall (S.store shelf.new) (S.failed shelf.new) }
         ensures honest { S.honest shelf.old → S.honest shelf.new }
         ensures places { length self.new.hall.guests.items ≡ length self.old.hall.guests.items }
+        ensures guests { StaysAt self.old.hall turn.place self.new.hall }
     {
         match self.places.get_mut(turn.place) {
             Some(Place::Taken(socket)) => {
@@ -53,6 +54,7 @@ impl<T: Read + Write + Drop> Connections<T> {
         requires { place < length self.old.hall.guests.items }
         ensures leaves { HallLeavesStore self.old.hall self.new.hall }
         ensures places { length self.new.hall.guests.items ≡ length self.old.hall.guests.items }
+        ensures others { LeavesOthers self.old.hall.guests.items place self.new.hall.guests.items }
         ensures renewed { slice_get self.new.places.items place ≡ Some Place.Free → GuestIs (λ g. IsNewGuest g self.old.hall.entered) self.new.hall.guests.items place }
         ensures closed { (socket : _) → slice_get self.new.places.items place ≢ Some (Place.Taken socket) }
         ensures silent { tally.new.served ≡ Served.Well → (tally.old.served ≡ Served.Well) × (faults.new ≡ faults.old) }
@@ -77,6 +79,7 @@ impl<T: Read + Write + Drop> Connections<T> {
         requires { place < length self.old.hall.guests.items }
         ensures leaves { HallLeavesStore self.old.hall self.new.hall }
         ensures places { length self.new.hall.guests.items ≡ length self.old.hall.guests.items }
+        ensures others { LeavesOthers self.old.hall.guests.items place self.new.hall.guests.items }
         ensures freed { IsFreed place self.old.places.items self.new.places.items self.new.hall.guests.items }
         ensures closed { IsOver progress → (socket : _) → slice_get self.new.places.items place ≢ Some (Place.Taken socket) }
         ensures stays { ¬ IsOver progress → (self.new ≡ self.old) × (faults.new ≡ faults.old) }
@@ -107,6 +110,7 @@ impl<T: Read + Write + Drop> Connections<T> {
         ensures leads { S.honest shelf.old → HallLeads self.old.hall (S.store shelf.old) (S.failed shelf.old) self.new.hall (S.store shelf.new) (S.failed shelf.new) }
         ensures honest { S.honest shelf.old → S.honest shelf.new }
         ensures places { length self.new.hall.guests.items ≡ length self.old.hall.guests.items }
+        ensures others { LeavesOthers self.old.hall.guests.items turn.place self.new.hall.guests.items }
         ensures silent { tally.new.served ≡ Served.Well → (tally.old.served ≡ Served.Well) × (faults.new ≡ faults.old) }
     {
         let progress = self.turn_at(turn, shelf);

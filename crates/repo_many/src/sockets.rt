@@ -4,7 +4,7 @@ ghost use Rattle.std.specs.Prelude.{◌≡◌, ◌≢◌, ◌<◌, length, slice
 ghost use Rattle.repo_hall.specs.Guests.{IsAwaited};
 ghost use Rattle.repo_hall.specs.Halls.{HallLeads, HallLeavesStore};
 ghost use Rattle.repo_hall.specs.declared.guests.Guest.{Guest};
-ghost use Rattle.repo_many.specs.Endings.{GuestIs, IsDone};
+ghost use Rattle.repo_many.specs.Endings.{GuestIs, IsDone, StaysAt};
 ghost use Rattle.repo_many.specs.declared.steps.Progress.{Progress};
 
 use crate::large_frames::{HEAD, Room};
@@ -88,6 +88,7 @@ impl<T: Read + Write + Drop> Socket<T> {
         ensures end { result ≡ Progress.AtEnd → GuestIs IsDone hall.new.guests.items turn.place }
         ensures leaves { HallLeavesStore hall.old hall.new }
         ensures places { length hall.new.guests.items ≡ length hall.old.guests.items }
+        ensures guests { StaysAt hall.old turn.place hall.new }
     {
         if self.at_end {
             if hall.is_between(turn.place) {
@@ -126,6 +127,7 @@ impl<T: Read + Write + Drop> Socket<T> {
         ensures leads { S.honest shelf.old → HallLeads hall.old (S.store shelf.old) (S.failed shelf.old) hall.new (S.store shelf.new) (S.failed shelf.new) }
         ensures honest { S.honest shelf.old → S.honest shelf.new }
         ensures places { length hall.new.guests.items ≡ length hall.old.guests.items }
+        ensures guests { StaysAt hall.old turn.place hall.new }
     {
         if !self.ready {
             return Progress::Still;
@@ -176,6 +178,7 @@ impl<T: Read + Write + Drop> Socket<T> {
         ensures leads { S.honest shelf.old → HallLeads hall.old (S.store shelf.old) (S.failed shelf.old) hall.new (S.store shelf.new) (S.failed shelf.new) }
         ensures honest { S.honest shelf.old → S.honest shelf.new }
         ensures places { length hall.new.guests.items ≡ length hall.old.guests.items }
+        ensures guests { StaysAt hall.old turn.place hall.new }
     {
         let progress = self.advance(hall, turn, piece, shelf);
         if progress == Progress::Still {

@@ -7,6 +7,7 @@ ghost use Rattle.repo_hall.specs.Halls.{HallLeads, HallLeavesStore, HappensAt, N
 ghost use Rattle.repo_hall.specs.Happenings.{Brought, Given};
 ghost use Rattle.repo_hall.specs.declared.guests.Guest.{Guest};
 ghost use Rattle.repo_store.specs.declared.serving.ServeError.{ServeError};
+ghost use Rattle.repo_many.specs.Endings.{StaysAt};
 ghost use Rattle.repo_many.specs.declared.steps.Progress.{Progress};
 
 use repo_hall::Hall;
@@ -38,6 +39,7 @@ pub fn give<W: Write>(hall: &mut Hall, place: usize, writer: &mut W) -> Progress
     ensures goes_on { result ≢ Progress.AtEnd }
     ensures leaves { HallLeavesStore hall.old hall.new }
     ensures places { length hall.new.guests.items ≡ length hall.old.guests.items }
+    ensures guests { StaysAt hall.old place hall.new }
 {
     let out = hall.out(place);
     if out.is_empty() {
@@ -66,6 +68,7 @@ pub fn take<R: Read>(hall: &mut Hall, place: usize, piece: &mut [u8], reader: &m
     ensures over { result ≡ Progress.AtEnd → 0 < length piece.old → IsAtEnd (R.remaining reader.new) }
     ensures leaves { HallLeavesStore hall.old hall.new }
     ensures places { length hall.new.guests.items ≡ length hall.old.guests.items }
+    ensures guests { StaysAt hall.old place hall.new }
 {
     match reader.read(piece) {
         Ok(0) => Progress::AtEnd,
@@ -88,6 +91,7 @@ pub fn reply<S: Shelf>(hall: &mut Hall, place: usize, shelf: &mut S) -> Progress
     ensures leads { S.honest shelf.old → HallLeads hall.old (S.store shelf.old) (S.failed shelf.old) hall.new (S.store shelf.new) (S.failed shelf.new) }
     ensures honest { S.honest shelf.old → S.honest shelf.new }
     ensures places { length hall.new.guests.items ≡ length hall.old.guests.items }
+    ensures guests { StaysAt hall.old place hall.new }
 {
     match hall.answer_at(place, shelf) {
         Ok(true) => Progress::Moved,

@@ -1,8 +1,8 @@
-use Rattle.std.proofs.Common.{rules, ◌≡◌, Some, List, length, slice_get, sym, subst, ◌∙◌}
+use Rattle.std.proofs.Common.{rules, ◌≡◌, ◌<◌, Some, List, length, slice_get, sym, subst, ◌∙◌}
 use Rattle.std.proofs.lemmas.List.{nil_from_length}
 use Rattle.repo_hall.specs.declared.guests.Guest.{Guest}
 use Rattle.repo_hall.proofs.Turning.{is_awaited}
-use Rattle.repo_many.proofs.Leading.{leads_on}
+use Rattle.repo_many.proofs.Leading.{leads_on, stays_on}
 use Rattle.repo_many.proofs.sockets.Socket.advance.Goals as goal
 
 pub returns-then-ne-clause-leads : goal.returns-then-ne-clause-leads
@@ -25,3 +25,19 @@ take_more-requires-clause-awaited g c h found =
 pub returns-else-has_ended-clause-leads : goal.returns-else-has_ended-clause-leads
 returns-else-has_ended-clause-leads g c honest =
     leads_on _ _ _ _ _ _ _ _ _ _ _ _ (leads_on _ _ _ _ _ _ _ _ _ _ _ _ (c.give-given.ensures.leaves _ _) (c.reply.ensures.leads honest)) (c.take_more.ensures.leaves _ _)
+
+pub returns-in_default-clause-guests : goal.returns-in_default-clause-guests
+returns-in_default-clause-guests g c =
+    let place = c.args.turn.place in
+    let within : place < length c.give-given.new.hall.guests.items = subst (λ n. place < n) (sym c.give-given.ensures.places) c.requires in
+    stays_on c.args.hall.now.guests.items c.give-given.new.hall.guests.items c.reply.new.hall.guests.items place within c.give-given.ensures.guests c.reply.ensures.guests
+
+pub returns-else-has_ended-clause-guests : goal.returns-else-has_ended-clause-guests
+returns-else-has_ended-clause-guests g c =
+    let place = c.args.turn.place in
+    let old = c.args.hall.now.guests.items in
+    let given = c.give-given.new.hall.guests.items in
+    let replied = c.reply.new.hall.guests.items in
+    let within : place < length given = subst (λ n. place < n) (sym c.give-given.ensures.places) c.requires in
+    let still : place < length replied = subst (λ n. place < n) (sym c.reply.ensures.places) within in
+    stays_on old replied c.take_more.new.hall.guests.items place still (stays_on old given replied place within c.give-given.ensures.guests c.reply.ensures.guests) c.take_more.ensures.guests
