@@ -67,7 +67,7 @@ def literals(pattern, *crates):
 def the_page_of_texts_has_each_text():
     """What the sources tell where a command fails, and how an outcome that is none of success is told."""
     page = plain((ROOT / "docs/man/vault-texts.7").read_text())
-    texts = literals(r'failed(?:_by)?\(faults, (?:&error, |&)"([^"]*)"\)', "repo_prog") | literals(r'End::\w+ => String::from_str\(alloc, "([^"]*)"\)', "repo_session")
+    texts = literals(r'failed(?:_by)?\((?:faults|&mut console\.faults), (?:&error, |&)"([^"]*)"\)', "repo_prog") | literals(r'End::\w+ => String::from_str\(alloc, "([^"]*)"\)', "repo_session")
     holds(len(texts) > 12, texts)
     for text in sorted(texts - {"abandoned"}):
         holds(text.rstrip("0123456789") in page, f"the page of texts has no {text!r}")

@@ -4,8 +4,8 @@
 use repo_dial::{Once, Recorder, Tape, Went};
 use repo_name::{Instance, Token};
 use repo_prog::{
-    Arrivals, Caller, FramesError, Listen, Status, frames, locks_command, refresh_command,
-    snapshots_command,
+    Arrivals, Caller, Console, FramesError, Listen, Route, Status, frames, locks_command,
+    refresh_command, snapshots_command,
 };
 use std::alloc::{AllocError, Global};
 use std::io;
@@ -49,53 +49,49 @@ fn turns(alloc: Global, tape: &Tape) -> Result<String, AllocError> {
     Ok(told)
 }
 
+/// A console of which all is kept in memory.
+fn console(alloc: Global) -> Console<Vec<u8>, Vec<u8>> {
+    Console {
+        output: Vec::new(alloc),
+        faults: Vec::new(alloc),
+    }
+}
+
 /// What is told of a command: its status, its output, its faults and its turns.
 fn told(
     alloc: Global,
     status: Status,
-    output: &[u8],
-    faults: &[u8],
+    console: &Console<Vec<u8>, Vec<u8>>,
     tape: &Tape,
 ) -> Result<String, AllocError> {
     let turns = turns(alloc, tape)?;
     let code = status.code();
-    let output = str::from_utf8(output).unwrap_or("no text");
-    let faults = str::from_utf8(faults).unwrap_or("no text");
+    let output = str::from_utf8(console.output.as_slice()).unwrap_or("no text");
+    let faults = str::from_utf8(console.faults.as_slice()).unwrap_or("no text");
     format!(in alloc; "{code}|{output}|{faults}|{turns}")
 }
 
 /// The same of a command of locks over what a server says: `locks`, or `refresh` of a token.
 fn asked(alloc: Global, token: Option<Token>, replies: &[u8]) -> Result<String, AllocError> {
     let mut recorder = Recorder::new(alloc, replies);
-    let (mut output, mut faults) = (Vec::new(alloc), Vec::new(alloc));
-    let (o, f) = (&mut output, &mut faults);
+    let mut console = console(alloc);
     let status = match token {
-        Some(token) => refresh_command(alloc, &CALLER, token, &mut recorder, o, f),
-        None => locks_command(alloc, &CALLER, &mut recorder, o, f),
+        Some(token) => refresh_command(alloc, &CALLER, token, &mut recorder, &mut console),
+        None => locks_command(alloc, &CALLER, &mut recorder, &mut console),
     };
-    told(
-        alloc,
-        status,
-        output.as_slice(),
-        faults.as_slice(),
-        &recorder.tape,
-    )
+    told(alloc, status, &console, &recorder.tape)
 }
 
 /// The same of a list of the snapshots.
 fn listed(alloc: Global, replies: &[u8]) -> Result<String, AllocError> {
-    let mut dial = Once::new(Recorder::new(alloc, replies));
-    let (mut output, mut faults) = (Vec::new(alloc), Vec::new(alloc));
-    let (o, f) = (&mut output, &mut faults);
-    let status = snapshots_command(alloc, &CALLER, &mut dial, 0, o, f);
-    match dial.given_back() {
-        Some(recorder) => told(
-            alloc,
-            status,
-            output.as_slice(),
-            faults.as_slice(),
-            &recorder.tape,
-        ),
+    let mut route = Route {
+        dial: Once::new(Recorder::new(alloc, replies)),
+        retry: 0,
+    };
+    let mut console = console(alloc);
+    let status = snapshots_command(alloc, &CALLER, &mut route, &mut console);
+    match route.dial.given_back() {
+        Some(recorder) => told(alloc, status, &console, &recorder.tape),
         None => Err(AllocError),
     }
 }

@@ -11,7 +11,9 @@ ghost use Rattle.repo_prog.specs.Errands.{BacksUp};
 ghost use Rattle.repo_prog.specs.Jobs.{BackupObeyed};
 
 use crate::callers::Caller;
+use crate::consoles::Console;
 use crate::printing::printed;
+use crate::routes::Route;
 use crate::status::{Status, failed, flawed, tell};
 use crate::telling::{show_made, stored_line, unfinished};
 use repo_backup::FeedError;
@@ -101,16 +103,15 @@ fn gave_up<F: Write>(alloc: Global, reason: &GivenUp<WalkError>, faults: &mut F)
 fn show_stored<O: Write, F: Write>(
     alloc: Global,
     outcome: Option<&Outcome>,
-    output: &mut O,
-    faults: &mut F,
+    console: &mut Console<O, F>,
 ) -> Status
-    ensures shows { ShowsStored (option_map (λ o. o.now) outcome.entry) result (O.contents output.old) (O.contents output.new) }
-    ensures silent { result ≡ Status.Done → faults.new ≡ faults.old }
+    ensures shows { ShowsStored (option_map (λ o. o.now) outcome.entry) result (O.contents console.old.output) (O.contents console.new.output) }
+    ensures silent { result ≡ Status.Done → console.new.faults ≡ console.old.faults }
 {
     let Some(Outcome::Stored { name, blobs, bytes }) = outcome else {
-        return unfinished(alloc, outcome, faults);
+        return unfinished(alloc, outcome, &mut console.faults);
     };
-    show_made(stored_line(alloc, name, *blobs, *bytes), output, faults)
+    show_made(stored_line(alloc, name, *blobs, *bytes), console)
 }
 
 /// Tells what was left out, and then what was stored, or how else the job ended. Where something was left out the status of
@@ -119,20 +120,19 @@ fn show_with<O: Write, F: Write>(
     alloc: Global,
     left_out: &[Skipped],
     outcome: Option<&Outcome>,
-    output: &mut O,
-    faults: &mut F,
+    console: &mut Console<O, F>,
 ) -> Status
-    ensures shows { ShowsStored (option_map (λ o. o.now) outcome.entry) (unflawed result) (O.contents output.old) (O.contents output.new) }
+    ensures shows { ShowsStored (option_map (λ o. o.now) outcome.entry) (unflawed result) (O.contents console.old.output) (O.contents console.new.output) }
     ensures whole { result ≡ Status.Done → left_out.now ≡ [] }
     ensures flawed { result ≡ Status.Flawed → left_out.now ≢ [] }
-    ensures silent { result ≡ Status.Done → faults.new ≡ faults.old }
+    ensures silent { result ≡ Status.Done → console.new.faults ≡ console.old.faults }
     ensures status { result ≢ Status.Usage }
 {
     if left_out.is_empty() {
-        return show_stored(alloc, outcome, output, faults);
+        return show_stored(alloc, outcome, console);
     }
-    tell_skipped(alloc, left_out, faults);
-    let status = show_stored(alloc, outcome, output, faults);
+    tell_skipped(alloc, left_out, &mut console.faults);
+    let status = show_stored(alloc, outcome, console);
     flawed(status)
 }
 
@@ -140,20 +140,19 @@ fn show_with<O: Write, F: Write>(
 fn show_ended<S: Source<Error = WalkError> + LeavesOut + Drop, O: Write, F: Write>(
     alloc: Global,
     backup: &FedBackup<S>,
-    output: &mut O,
-    faults: &mut F,
+    console: &mut Console<O, F>,
 ) -> Status
-    ensures shows { ShowsStored (ended_of backup.now.backup backup.now.awaited) (unflawed result) (O.contents output.old) (O.contents output.new) }
+    ensures shows { ShowsStored (ended_of backup.now.backup backup.now.awaited) (unflawed result) (O.contents console.old.output) (O.contents console.new.output) }
     ensures whole { result ≡ Status.Done → S.skipped backup.now.source ≡ [] }
     ensures flawed { result ≡ Status.Flawed → S.skipped backup.now.source ≢ [] }
-    ensures silent { result ≡ Status.Done → faults.new ≡ faults.old }
+    ensures silent { result ≡ Status.Done → console.new.faults ≡ console.old.faults }
     ensures status { result ≢ Status.Usage }
 {
     if let Some(reason) = backup.given_up() {
-        return gave_up(alloc, reason, faults);
+        return gave_up(alloc, reason, &mut console.faults);
     }
     let left_out = backup.source().left_out();
-    show_with(alloc, left_out, backup.outcome(), output, faults)
+    show_with(alloc, left_out, backup.outcome(), console)
 }
 
 /// Tells why a backup was given up, if it was, and then why it wasn't brought to its end.
@@ -171,63 +170,76 @@ fn show_broken<S: Source<Error = WalkError> + LeavesOut + Drop, F: Write>(
     failed(faults, error)
 }
 
+/// What is backed up, and under the name of which machine.
+#[derive(Drop)]
+pub struct Origin<'a, S> {
+    /// 1 to 255 bytes.
+    pub host: &'a str,
+    /// A source, or the path of a folder.
+    pub source: S,
+}
+
 /// Backs up what a source gives that gave nothing so far, under the name of a machine. Where the source fails, or an item of
-/// it may not be backed up, the backup is given up, and that is told. After the first connection `retry` more are made at
-/// most. The status is `Done` where the source had left nothing out in the end, and else `Flawed`, if a snapshot was stored.
+/// it may not be backed up, the backup is given up, and that is told. After the first connection `route.retry` more are made
+/// at most. The status is `Done` where the source had left nothing out in the end, and else `Flawed`, if a snapshot was stored.
 pub fn backup_from<S: Source<Error = WalkError> + LeavesOut + Drop, D: Dial, O: Write, F: Write>(
     alloc: Global,
     caller: &Caller,
-    host: &str,
-    source: S,
-    dial: &mut D,
-    retry: u64,
-    output: &mut O,
-    faults: &mut F,
+    origin: Origin<'_, S>,
+    route: &mut Route<D>,
+    console: &mut Console<O, F>,
 ) -> Status
-    requires host { IsHost host.now }
-    requires fresh { IsFresh (S.told source) (S.failed source) }
-    ensures obeyed { BackupObeyed caller.now host.now (whole_of (S.told source)) retry (D.connections dial.old) (D.connections dial.new) }
+    requires host { IsHost origin.host.now }
+    requires fresh { IsFresh (S.told origin.source) (S.failed origin.source) }
+    ensures obeyed { BackupObeyed caller.now origin.entry.host.now (whole_of (S.told origin.entry.source)) route.old.retry (D.connections route.old.dial) (D.connections route.new.dial) }
     ensures whole { result ≡ Status.Done → (left : S) × HasStoredFrom (S.told left) (S.failed left) × (S.skipped left ≡ []) }
     ensures flawed { result ≡ Status.Flawed → (left : S) × HasStoredFrom (S.told left) (S.failed left) × (S.skipped left ≢ []) }
-    ensures tells { TellsStored caller.now host.now (whole_of (S.told source)) retry (D.connections dial.old) (D.connections dial.new) (unflawed result) (O.contents output.old) (O.contents output.new) }
-    ensures silent { result ≡ Status.Done → faults.new ≡ faults.old }
+    ensures tells { TellsStored caller.now origin.entry.host.now (whole_of (S.told origin.entry.source)) route.old.retry (D.connections route.old.dial) (D.connections route.new.dial) (unflawed result) (O.contents console.old.output) (O.contents console.new.output) }
+    ensures silent { result ≡ Status.Done → console.new.faults ≡ console.old.faults }
     ensures status { result ≢ Status.Usage }
+    ensures retry { route.new.retry ≡ route.old.retry }
 {
+    let Origin { host, source } = origin;
     let Ok(who) = caller.who(alloc, host) else {
-        return failed(faults, &DriveError::Memory);
+        return failed(&mut console.faults, &DriveError::Memory);
     };
     let Ok(mut backup) = FedBackup::new(alloc, who, source) else {
-        return failed(faults, &DriveError::Memory);
+        return failed(&mut console.faults, &DriveError::Memory);
     };
-    match drive_again(alloc, &mut backup, dial, retry, &mut |_| true) {
-        Ok(_) => show_ended(alloc, &backup, output, faults),
-        Err(error) => show_broken(alloc, &backup, &error, faults),
+    match drive_again(
+        alloc,
+        &mut backup,
+        &mut route.dial,
+        route.retry,
+        &mut |_| true,
+    ) {
+        Ok(_) => show_ended(alloc, &backup, console),
+        Err(error) => show_broken(alloc, &backup, &error, &mut console.faults),
     }
 }
 
 /// `vault backup`: stores what a folder holds. Of a folder that can't be listed nothing is sent. A file or a folder below it
-/// that can't be read is told as `unreadable` with its path, and the backup is given up. After the first connection `retry`
-/// more are made at most.
+/// that can't be read is told as `unreadable` with its path, and the backup is given up. After the first connection
+/// `route.retry` more are made at most.
 ///
 /// That what is stored is what the folder holds is no clause, since no contract sees a file.
 pub fn backup_command<T: Files + AllocGlobal + Clone + Drop, D: Dial, O: Write, F: Write>(
     rt: &T,
     caller: &Caller,
-    host: &str,
-    folder: &str,
-    dial: &mut D,
-    retry: u64,
-    output: &mut O,
-    faults: &mut F,
+    origin: Origin<'_, &str>,
+    route: &mut Route<D>,
+    console: &mut Console<O, F>,
 ) -> Status
-    requires { IsHost host.now }
-    ensures gives { BacksUp caller.now host.now retry (D.connections dial.old) (D.connections dial.new) (O.contents output.old) result (O.contents output.new) }
-    ensures silent { result ≡ Status.Done → faults.new ≡ faults.old }
+    requires { IsHost origin.host.now }
+    ensures gives { BacksUp caller.now origin.entry.host.now route.old.retry (D.connections route.old.dial) (D.connections route.new.dial) (O.contents console.old.output) result (O.contents console.new.output) }
+    ensures silent { result ≡ Status.Done → console.new.faults ≡ console.old.faults }
     ensures status { result ≢ Status.Usage }
+    ensures retry { route.new.retry ≡ route.old.retry }
 {
     let alloc = rt.alloc();
-    match FolderWalk::new(rt, folder) {
-        Ok(walk) => backup_from(alloc, caller, host, walk, dial, retry, output, faults),
-        Err(error) => not_walked(alloc, &error, faults),
+    let Origin { host, source } = origin;
+    match FolderWalk::new(rt, source) {
+        Ok(source) => backup_from(alloc, caller, Origin { host, source }, route, console),
+        Err(error) => not_walked(alloc, &error, &mut console.faults),
     }
 }

@@ -7,6 +7,8 @@ ghost use Rattle.repo_prog.specs.Shown.{ShowsChecked, TellsChecked};
 ghost use Rattle.repo_prog.specs.Jobs.{CheckObeyed};
 
 use crate::callers::{Caller, HOST};
+use crate::consoles::Console;
+use crate::routes::Route;
 use crate::status::{Status, failed, flawed};
 use crate::telling::{clean_line, fault_lines, show_made, unfinished};
 use repo_check::Check;
@@ -19,11 +21,10 @@ use std::io::Write;
 fn show_checked<O: Write, F: Write>(
     alloc: Global,
     outcome: &Outcome,
-    output: &mut O,
-    faults: &mut F,
+    console: &mut Console<O, F>,
 ) -> Status
-    ensures shows { ShowsChecked outcome.now result (O.contents output.old) (O.contents output.new) }
-    ensures silent { IsStoredStatus result → faults.new ≡ faults.old }
+    ensures shows { ShowsChecked outcome.now result (O.contents console.old.output) (O.contents console.new.output) }
+    ensures silent { IsStoredStatus result → console.new.faults ≡ console.old.faults }
 {
     match outcome {
         Outcome::Clean {
@@ -33,36 +34,35 @@ fn show_checked<O: Write, F: Write>(
             blobs,
         } => {
             let line = clean_line(alloc, *snapshots, *indexes, *packs, *blobs);
-            show_made(line, output, faults)
+            show_made(line, console)
         }
         Outcome::Faults(found) => {
-            flawed(show_made(fault_lines(alloc, found.as_slice()), output, faults))
+            flawed(show_made(fault_lines(alloc, found.as_slice()), console))
         }
-        _ => unfinished(alloc, Some(outcome), faults),
+        _ => unfinished(alloc, Some(outcome), &mut console.faults),
     }
 }
 
 /// `vault check`: reads all of a store, and tells that it is well: how many snapshots, indexes and packs it has, and how
 /// many blobs the snapshots need. Where things are at fault it tells them in place of that, a line each on the output, and
-/// the status is `Flawed`. It changes nothing. After the first connection `retry` more are made at most.
+/// the status is `Flawed`. It changes nothing. After the first connection `route.retry` more are made at most.
 pub fn check_command<D: Dial, O: Write, F: Write>(
     alloc: Global,
     caller: &Caller,
-    dial: &mut D,
-    retry: u64,
-    output: &mut O,
-    faults: &mut F,
+    route: &mut Route<D>,
+    console: &mut Console<O, F>,
 ) -> Status
-    ensures obeyed { CheckObeyed caller.now retry (D.connections dial.old) (D.connections dial.new) }
-    ensures tells { TellsChecked caller.now retry (D.connections dial.old) (D.connections dial.new) result (O.contents output.old) (O.contents output.new) }
-    ensures silent { IsStoredStatus result → faults.new ≡ faults.old }
+    ensures obeyed { CheckObeyed caller.now route.old.retry (D.connections route.old.dial) (D.connections route.new.dial) }
+    ensures tells { TellsChecked caller.now route.old.retry (D.connections route.old.dial) (D.connections route.new.dial) result (O.contents console.old.output) (O.contents console.new.output) }
+    ensures silent { IsStoredStatus result → console.new.faults ≡ console.old.faults }
+    ensures retry { route.new.retry ≡ route.old.retry }
 {
     let Ok(who) = caller.who(alloc, HOST) else {
-        return failed(faults, &DriveError::Memory);
+        return failed(&mut console.faults, &DriveError::Memory);
     };
     let check = Check::new(alloc, who);
-    match bring(alloc, check, dial, retry) {
-        Ok(outcome) => show_checked(alloc, &outcome, output, faults),
-        Err(error) => failed(faults, &error),
+    match bring(alloc, check, &mut route.dial, route.retry) {
+        Ok(outcome) => show_checked(alloc, &outcome, console),
+        Err(error) => failed(&mut console.faults, &error),
     }
 }

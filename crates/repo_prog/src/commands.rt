@@ -11,13 +11,16 @@ ghost use Rattle.repo_prog.specs.declared.words.Order.{Order};
 ghost use Rattle.repo_prog.specs.declared.words.OrderError.{OrderError};
 
 use crate::connecting::run_errand;
+use crate::consoles::Console;
 use crate::frames_engine::frames;
 use crate::init::init_folder;
 use crate::playing::{loop_command, play_command};
+use crate::routes::Route;
 use crate::serve::serve_folder;
 use crate::status::{Status, failed, refuse_both, refuse_words};
 use crate::words::{Order, OrderError, WordsError, order_of};
 use clap::error::ErrorKind;
+use repo_dial::Address;
 use repo_files::HoldFile;
 use repo_session::DriveError;
 use std::alloc::{AllocGlobal, Global};
@@ -32,38 +35,39 @@ use std::rt::Clock;
 pub fn frames_command<R: Read, W: Write, F: Write>(
     alloc: Global,
     input: &mut R,
-    output: &mut W,
-    faults: &mut F,
+    console: &mut Console<W, F>,
 ) -> Status
-    ensures gives { (text : List ℕ) → R.remaining input.old ≡ Some text → FramesGives text (W.contents output.old) result (R.remaining input.new) (W.contents output.new) }
-    ensures silent { result ≡ Status.Done → faults.new ≡ faults.old }
+    ensures gives { (text : List ℕ) → R.remaining input.old ≡ Some text → FramesGives text (W.contents console.old.output) result (R.remaining input.new) (W.contents console.new.output) }
+    ensures silent { result ≡ Status.Done → console.new.faults ≡ console.old.faults }
     ensures status { result ≢ Status.Usage }
 {
-    match frames(alloc, input, output) {
+    match frames(alloc, input, &mut console.output) {
         Ok(_) => Status::Done,
-        Err(error) => failed(faults, &error),
+        Err(error) => failed(&mut console.faults, &error),
     }
 }
 
 /// Shows `clap`'s text: its help and its version on the output, and else its refusal on the faults.
-fn show<W: Write, F: Write>(error: &clap::Error, output: &mut W, faults: &mut F) -> Status
+fn show<W: Write, F: Write>(error: &clap::Error, console: &mut Console<W, F>) -> Status
     ensures status { result ≢ Status.Flawed }
-    ensures silent { result ≡ Status.Done → faults.new ≡ faults.old }
-    ensures usage { result ≡ Status.Usage → output.new ≡ output.old }
-    ensures unshown { ¬ IsToShow (kind_of error.now) → output.new ≡ output.old }
+    ensures silent { result ≡ Status.Done → console.new.faults ≡ console.old.faults }
+    ensures usage { result ≡ Status.Usage → console.new.output ≡ console.old.output }
+    ensures unshown { ¬ IsToShow (kind_of error.now) → console.new.output ≡ console.old.output }
     ensures memory { kind_of error.now ≡ ErrorKind.OutOfMemory → result ≡ Status.Failed }
     ensures done { result ≡ Status.Done → IsToShow (kind_of error.now) }
     ensures failed { result ≡ Status.Failed → IsToShow (kind_of error.now) ⊎ (kind_of error.now ≡ ErrorKind.OutOfMemory) }
     ensures refused { result ≡ Status.Usage → ¬ IsToShow (kind_of error.now) }
 {
     match error.kind() {
-        ErrorKind::OutOfMemory => failed(faults, &DriveError::Memory),
-        ErrorKind::DisplayHelp | ErrorKind::DisplayVersion => match write!(output, "{error}") {
-            Ok(()) => Status::Done,
-            Err(_) => failed(faults, &DriveError::Write),
-        },
+        ErrorKind::OutOfMemory => failed(&mut console.faults, &DriveError::Memory),
+        ErrorKind::DisplayHelp | ErrorKind::DisplayVersion => {
+            match write!(console.output, "{error}") {
+                Ok(()) => Status::Done,
+                Err(_) => failed(&mut console.faults, &DriveError::Write),
+            }
+        }
         _ => {
-            let _ = write!(faults, "{error}");
+            let _ = write!(console.faults, "{error}");
             Status::Usage
         }
     }
@@ -76,38 +80,34 @@ pub fn perform<
     R: Read,
     W: Write,
     F: Write,
->(rt: &T, order: Order, input: &mut R, output: &mut W, faults: &mut F) -> Status
+>(rt: &T, order: Order, input: &mut R, console: &mut Console<W, F>) -> Status
 where
     T::File: HoldFile,
     requires { IsOrder order }
-    ensures silent { result ≡ Status.Done → faults.new ≡ faults.old }
+    ensures silent { result ≡ Status.Done → console.new.faults ≡ console.old.faults }
     ensures status { result ≢ Status.Usage }
     ensures unread { ¬ ReadsInput order → input.new ≡ input.old }
-    ensures gives { OrderGives order (R.remaining input.old) (R.remaining input.new) (W.contents output.old) result (W.contents output.new) }
+    ensures gives { OrderGives order (R.remaining input.old) (R.remaining input.new) (W.contents console.old.output) result (W.contents console.new.output) }
 {
     match order {
-        Order::Frames => frames_command(rt.alloc(), input, output, faults),
-        Order::Play => play_command(rt.alloc(), input, output, faults),
-        Order::Loop => loop_command(rt, input, output, faults),
-        Order::Init { folder, making } => init_folder(rt, folder.as_str(), &making, output, faults),
+        Order::Frames => frames_command(rt.alloc(), input, console),
+        Order::Play => play_command(rt.alloc(), input, console),
+        Order::Loop => loop_command(rt, input, console),
+        Order::Init { folder, making } => init_folder(rt, folder.as_str(), &making, console),
         Order::Serve {
             folder,
             address,
             serving,
-        } => serve_folder(
-            rt,
-            folder.as_str(),
-            address.as_str(),
-            serving,
-            output,
-            faults,
-        ),
+        } => serve_folder(rt, folder.as_str(), address.as_str(), serving, console),
         Order::Client {
             address,
             errand,
             retry,
             idle,
-        } => run_errand(rt, address.as_str(), errand, retry, idle, output, faults),
+        } => {
+            let dial = Address::new(rt, address.as_str(), idle);
+            run_errand(rt, errand, Route { dial, retry }, console)
+        }
     }
 }
 
@@ -118,21 +118,21 @@ fn follow<
     R: Read,
     W: Write,
     F: Write,
->(rt: &T, order: Result<Order, OrderError>, input: &mut R, output: &mut W, faults: &mut F) -> Status
+>(rt: &T, order: Result<Order, OrderError>, input: &mut R, console: &mut Console<W, F>) -> Status
 where
     T::File: HoldFile,
     requires { IfOk order IsOrder }
-    ensures follows { Follows order (R.remaining input.old) (R.remaining input.new) (W.contents output.old) result (W.contents output.new) }
+    ensures follows { Follows order (R.remaining input.old) (R.remaining input.new) (W.contents console.old.output) result (W.contents console.new.output) }
     ensures unread { (error : OrderError) → order ≡ Err error → input.new ≡ input.old }
-    ensures silent { result ≡ Status.Done → faults.new ≡ faults.old }
-    ensures usage { result ≡ Status.Usage → (input.new ≡ input.old) × (output.new ≡ output.old) }
+    ensures silent { result ≡ Status.Done → console.new.faults ≡ console.old.faults }
+    ensures usage { result ≡ Status.Usage → (input.new ≡ input.old) × (console.new.output ≡ console.old.output) }
 {
     match order {
-        Ok(order) => perform(rt, order, input, output, faults),
-        Err(OrderError::Clap(error)) => show(&error, output, faults),
-        Err(OrderError::Words(WordsError::BadArgument)) => refuse_words(faults),
-        Err(OrderError::Words(WordsError::NamesAndPolicy)) => refuse_both(faults),
-        Err(OrderError::Words(WordsError::Memory)) => failed(faults, &"out of memory"),
+        Ok(order) => perform(rt, order, input, console),
+        Err(OrderError::Clap(error)) => show(&error, console),
+        Err(OrderError::Words(WordsError::BadArgument)) => refuse_words(&mut console.faults),
+        Err(OrderError::Words(WordsError::NamesAndPolicy)) => refuse_both(&mut console.faults),
+        Err(OrderError::Words(WordsError::Memory)) => failed(&mut console.faults, &"out of memory"),
     }
 }
 
@@ -144,13 +144,13 @@ pub fn run<
     R: Read,
     W: Write,
     F: Write,
->(rt: &T, words: &[String], input: &mut R, output: &mut W, faults: &mut F) -> Status
+>(rt: &T, words: &[String], input: &mut R, console: &mut Console<W, F>) -> Status
 where
     T::File: HoldFile,
     ensures follows { (order : Result Order OrderError) × ReadsAs (map string_bytes words.now) order
-        × Follows order (R.remaining input.old) (R.remaining input.new) (W.contents output.old) result (W.contents output.new) }
-    ensures silent { result ≡ Status.Done → faults.new ≡ faults.old }
-    ensures usage { result ≡ Status.Usage → (input.new ≡ input.old) × (output.new ≡ output.old) }
+        × Follows order (R.remaining input.old) (R.remaining input.new) (W.contents console.old.output) result (W.contents console.new.output) }
+    ensures silent { result ≡ Status.Done → console.new.faults ≡ console.old.faults }
+    ensures usage { result ≡ Status.Usage → (input.new ≡ input.old) × (console.new.output ≡ console.old.output) }
 {
-    follow(rt, order_of(rt.alloc(), words), input, output, faults)
+    follow(rt, order_of(rt.alloc(), words), input, console)
 }

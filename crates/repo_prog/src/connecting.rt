@@ -7,15 +7,17 @@ ghost use Rattle.repo_prog.specs.Errands.{AddressGives, ErrandGives, LockGives, 
 ghost use Rattle.repo_prog.specs.declared.errands.Errand.{Errand};
 ghost use Rattle.repo_prog.specs.declared.status.Status.{Status};
 
-use crate::backup::backup_command;
+use crate::backup::{Origin, backup_command};
 use crate::callers::{Caller, caller_now};
 use crate::check::check_command;
+use crate::consoles::Console;
 use crate::errands::{Errand, LockErrand};
 use crate::foresee::foresee_command;
 use crate::forget::forget_command;
 use crate::locks::{locks_command, refresh_command, unlock_command};
 use crate::prune::prune_command;
-use crate::restore::restore_command;
+use crate::restore::{Restoring, restore_command};
+use crate::routes::Route;
 use crate::snapshots::snapshots_command;
 use crate::status::{Status, failed};
 use crate::upgrade::upgrade_command;
@@ -26,7 +28,6 @@ use std::io::Write;
 use std::net::Net;
 use std::random::RandomSource;
 use std::rt::Clock;
-use std::time::Duration;
 
 /// Asks about the locks.
 fn ask_about_locks<E: KnownChannel, O: Write, F: Write>(
@@ -34,19 +35,16 @@ fn ask_about_locks<E: KnownChannel, O: Write, F: Write>(
     caller: &Caller,
     errand: LockErrand,
     channel: &mut E,
-    output: &mut O,
-    faults: &mut F,
+    console: &mut Console<O, F>,
 ) -> Status
-    ensures gives { LockGives errand caller.now (streams (E.ends channel.old) (O.contents output.old)) result (streams (E.ends channel.new) (O.contents output.new)) }
-    ensures silent { result ≡ Status.Done → faults.new ≡ faults.old }
+    ensures gives { LockGives errand caller.now (streams (E.ends channel.old) (O.contents console.old.output)) result (streams (E.ends channel.new) (O.contents console.new.output)) }
+    ensures silent { result ≡ Status.Done → console.new.faults ≡ console.old.faults }
     ensures status { result ≢ Status.Usage }
 {
     match errand {
-        LockErrand::List => locks_command(alloc, caller, channel, output, faults),
-        LockErrand::Refresh(token) => {
-            refresh_command(alloc, caller, token, channel, output, faults)
-        }
-        LockErrand::Remove { all } => unlock_command(alloc, caller, all, channel, output, faults),
+        LockErrand::List => locks_command(alloc, caller, channel, console),
+        LockErrand::Refresh(token) => refresh_command(alloc, caller, token, channel, console),
+        LockErrand::Remove { all } => unlock_command(alloc, caller, all, channel, console),
     }
 }
 
@@ -56,17 +54,16 @@ fn ask_locks<D: Dial, O: Write, F: Write>(
     caller: &Caller,
     errand: LockErrand,
     dial: &mut D,
-    output: &mut O,
-    faults: &mut F,
+    console: &mut Console<O, F>,
 ) -> Status
-    ensures gives { LocksGive errand caller.now (D.connections dial.old) (D.connections dial.new) (O.contents output.old) result (O.contents output.new) }
-    ensures silent { result ≡ Status.Done → faults.new ≡ faults.old }
+    ensures gives { LocksGive errand caller.now (D.connections dial.old) (D.connections dial.new) (O.contents console.old.output) result (O.contents console.new.output) }
+    ensures silent { result ≡ Status.Done → console.new.faults ≡ console.old.faults }
     ensures status { result ≢ Status.Usage }
 {
     let Some(mut channel) = dial.dial() else {
-        return failed(faults, &"not reached");
+        return failed(&mut console.faults, &"not reached");
     };
-    let status = ask_about_locks(alloc, caller, errand, &mut channel, output, faults);
+    let status = ask_about_locks(alloc, caller, errand, &mut channel, console);
     dial.hang_up(channel);
     status
 }
@@ -77,69 +74,59 @@ pub fn do_errand<T: Files + AllocGlobal + Clone + Drop, D: Dial, O: Write, F: Wr
     rt: &T,
     caller: &Caller,
     errand: Errand,
-    dial: &mut D,
-    retry: u64,
-    output: &mut O,
-    faults: &mut F,
+    route: &mut Route<D>,
+    console: &mut Console<O, F>,
 ) -> Status
     requires { IsErrand errand }
-    ensures gives { ErrandGives errand caller.now retry (D.connections dial.old) (D.connections dial.new) (O.contents output.old) result (O.contents output.new) }
-    ensures checked { errand ≡ Errand.Check → IsStoredStatus result → faults.new ≡ faults.old }
-    ensures silent { result ≡ Status.Done → faults.new ≡ faults.old }
+    ensures gives { ErrandGives errand caller.now route.old.retry (D.connections route.old.dial) (D.connections route.new.dial) (O.contents console.old.output) result (O.contents console.new.output) }
+    ensures checked { errand ≡ Errand.Check → IsStoredStatus result → console.new.faults ≡ console.old.faults }
+    ensures silent { result ≡ Status.Done → console.new.faults ≡ console.old.faults }
     ensures status { result ≢ Status.Usage }
+    ensures retry { route.new.retry ≡ route.old.retry }
 {
     let alloc = rt.alloc();
     match errand {
         Errand::Backup { host, folder } => {
-            let (host, folder) = (host.as_str(), folder.as_str());
-            backup_command(rt, caller, host, folder, dial, retry, output, faults)
+            let origin = Origin {
+                host: host.as_str(),
+                source: folder.as_str(),
+            };
+            backup_command(rt, caller, origin, route, console)
         }
-        Errand::Snapshots => snapshots_command(alloc, caller, dial, retry, output, faults),
+        Errand::Snapshots => snapshots_command(alloc, caller, route, console),
         Errand::Restore { name, folder } => {
             let folder = folder.as_str();
-            restore_command(rt, caller, name, folder, dial, retry, output, faults)
+            restore_command(rt, caller, Restoring { name, folder }, route, console)
         }
-        Errand::Forget(choice) => forget_command(
-            alloc, caller, choice, dial, retry, output, faults,
-        ),
-        Errand::Foresee(choice) => foresee_command(
-            alloc, caller, &choice, dial, retry, output, faults,
-        ),
-        Errand::Prune => prune_command(alloc, caller, dial, retry, output, faults),
-        Errand::Upgrade => upgrade_command(alloc, caller, dial, retry, output, faults),
-        Errand::Check => check_command(alloc, caller, dial, retry, output, faults),
-        Errand::Locks(errand) => ask_locks(alloc, caller, errand, dial, output, faults),
+        Errand::Forget(choice) => forget_command(alloc, caller, choice, route, console),
+        Errand::Foresee(choice) => foresee_command(alloc, caller, &choice, route, console),
+        Errand::Prune => prune_command(alloc, caller, route, console),
+        Errand::Upgrade => upgrade_command(alloc, caller, route, console),
+        Errand::Check => check_command(alloc, caller, route, console),
+        Errand::Locks(errand) => ask_locks(alloc, caller, errand, &mut route.dial, console),
     }
 }
 
-/// Connects to an address, and does an errand there. It connects again so many times at most; an address that can't be
-/// connected to is told as `not reached`. With a time for `idle` each read and each write of a connection fails that waits
-/// for longer.
+/// Connects to an address, and does an errand there. It connects again `route.retry` times at most; an address that can't be
+/// connected to is told as `not reached`.
 pub fn run_errand<
     T: Files + Net + AllocGlobal + RandomSource + Clock + Clone + Drop,
     O: Write,
     F: Write,
->(
-    rt: &T,
-    address: &str,
-    errand: Errand,
-    retry: u64,
-    idle: Option<Duration>,
-    output: &mut O,
-    faults: &mut F,
-) -> Status
+>(rt: &T, errand: Errand, route: Route<Address<'_, T>>, console: &mut Console<O, F>) -> Status
     requires { IsErrand errand }
-    ensures gives { AddressGives errand retry (O.contents output.old) result (O.contents output.new) }
-    ensures checked { errand ≡ Errand.Check → IsStoredStatus result → faults.new ≡ faults.old }
-    ensures silent { result ≡ Status.Done → faults.new ≡ faults.old }
+    ensures gives { AddressGives errand route.entry.retry (O.contents console.old.output) result (O.contents console.new.output) }
+    ensures checked { errand ≡ Errand.Check → IsStoredStatus result → console.new.faults ≡ console.old.faults }
+    ensures silent { result ≡ Status.Done → console.new.faults ≡ console.old.faults }
     ensures status { result ≢ Status.Usage }
 {
-    let mut dial = Address::new(rt, address, idle);
-    let Some(left) = dial.reach(retry) else {
-        return failed(faults, &"not reached");
+    let Route { mut dial, retry } = route;
+    let Some(retry) = dial.reach(retry) else {
+        return failed(&mut console.faults, &"not reached");
     };
     let Ok(caller) = caller_now(rt) else {
-        return failed(faults, &"read failed");
+        return failed(&mut console.faults, &"read failed");
     };
-    do_errand(rt, &caller, errand, &mut dial, left, output, faults)
+    let mut route = Route { dial, retry };
+    do_errand(rt, &caller, errand, &mut route, console)
 }

@@ -10,6 +10,7 @@ ghost use Rattle.repo_prog.specs.Commands.{config_by, created_line, InitGives, I
 ghost use Rattle.repo_prog.specs.Tellings.{IsCutShort};
 ghost use Rattle.repo_prog.specs.declared.status.Status.{Status};
 
+use crate::consoles::Console;
 use crate::status::{Status, failed, failed_by};
 use crate::words::Making;
 use rand::rngs::SysRng;
@@ -54,28 +55,27 @@ pub fn init_command<S: Shelf, W: Write, F: Write>(
     alloc: Global,
     shelf: &mut S,
     config: &Config,
-    output: &mut W,
-    faults: &mut F,
+    console: &mut Console<W, F>,
 ) -> Status
     requires version { IsKnownTo greatest_version config.now.version }
     requires target { IsTarget config.now.target }
-    ensures gives { S.honest shelf.old → InitGives config.now (S.store shelf.old) (W.contents output.old) result (S.store shelf.new) (W.contents output.new) }
+    ensures gives { S.honest shelf.old → InitGives config.now (S.store shelf.old) (W.contents console.old.output) result (S.store shelf.new) (W.contents console.new.output) }
     ensures honest { S.honest shelf.old → S.honest shelf.new }
-    ensures silent { result ≡ Status.Done → faults.new ≡ faults.old }
+    ensures silent { result ≡ Status.Done → console.new.faults ≡ console.old.faults }
     ensures status { IsEnd result }
-    ensures written { result ≡ Status.Done → Appends (W.contents output.old) (W.contents output.new) (created_line config.now.id) }
-    ensures cut { result ≡ Status.Failed → IsCutShort (W.contents output.old) (W.contents output.new) (created_line config.now.id) }
+    ensures written { result ≡ Status.Done → Appends (W.contents console.old.output) (W.contents console.new.output) (created_line config.now.id) }
+    ensures cut { result ≡ Status.Failed → IsCutShort (W.contents console.old.output) (W.contents console.new.output) (created_line config.now.id) }
 {
     let line = match created_line(alloc, &config.id) {
         Ok(line) => line,
-        Err(_) => return failed(faults, &InitError::Memory),
+        Err(_) => return failed(&mut console.faults, &InitError::Memory),
     };
     if let Err(error) = init(alloc, shelf, config) {
-        return failed(faults, &error);
+        return failed(&mut console.faults, &error);
     }
-    match write_whole(output, line.as_bytes()) {
+    match write_whole(&mut console.output, line.as_bytes()) {
         Ok(()) => Status::Done,
-        Err(error) => failed(faults, &error),
+        Err(error) => failed(&mut console.faults, &error),
     }
 }
 
@@ -97,18 +97,17 @@ fn make_on<S: Shelf, W: Write, F: Write>(
     shelf: &mut S,
     making: &Making,
     id: Instance,
-    output: &mut W,
-    faults: &mut F,
+    console: &mut Console<W, F>,
 ) -> Status
     requires { IsMaking making.now }
-    ensures gives { S.honest shelf.old → InitGives (config_by making.now id) (S.store shelf.old) (W.contents output.old) result (S.store shelf.new) (W.contents output.new) }
+    ensures gives { S.honest shelf.old → InitGives (config_by making.now id) (S.store shelf.old) (W.contents console.old.output) result (S.store shelf.new) (W.contents console.new.output) }
     ensures honest { S.honest shelf.old → S.honest shelf.new }
-    ensures silent { result ≡ Status.Done → faults.new ≡ faults.old }
+    ensures silent { result ≡ Status.Done → console.new.faults ≡ console.old.faults }
     ensures status { IsEnd result }
-    ensures written { result ≡ Status.Done → Appends (W.contents output.old) (W.contents output.new) (created_line id) }
-    ensures cut { result ≡ Status.Failed → IsCutShort (W.contents output.old) (W.contents output.new) (created_line id) }
+    ensures written { result ≡ Status.Done → Appends (W.contents console.old.output) (W.contents console.new.output) (created_line id) }
+    ensures cut { result ≡ Status.Failed → IsCutShort (W.contents console.old.output) (W.contents console.new.output) (created_line id) }
 {
-    init_command(alloc, shelf, &config_of(making, id), output, faults)
+    init_command(alloc, shelf, &config_of(making, id), console)
 }
 
 /// `vault init`: makes a store in a folder, which is made where it isn't there. What is in it stays as it is:
@@ -119,26 +118,25 @@ pub fn init_folder<R: Files + AllocGlobal + RandomSource + Clone + Drop, W: Writ
     rt: &R,
     folder: &str,
     making: &Making,
-    output: &mut W,
-    faults: &mut F,
+    console: &mut Console<W, F>,
 ) -> Status
 where
     R::File: HoldFile,
     requires { IsMaking making.now }
-    ensures silent { result ≡ Status.Done → faults.new ≡ faults.old }
+    ensures silent { result ≡ Status.Done → console.new.faults ≡ console.old.faults }
     ensures status { IsEnd result }
-    ensures written { result ≡ Status.Done → (id : Instance) × IsInstance id × Appends (W.contents output.old) (W.contents output.new) (created_line id) }
-    ensures cut { result ≡ Status.Failed → (W.contents output.new ≡ W.contents output.old)
-        ⊎ ((id : Instance) × IsInstance id × IsCutShort (W.contents output.old) (W.contents output.new) (created_line id)) }
+    ensures written { result ≡ Status.Done → (id : Instance) × IsInstance id × Appends (W.contents console.old.output) (W.contents console.new.output) (created_line id) }
+    ensures cut { result ≡ Status.Failed → (W.contents console.new.output ≡ W.contents console.old.output)
+        ⊎ ((id : Instance) × IsInstance id × IsCutShort (W.contents console.old.output) (W.contents console.new.output) (created_line id)) }
 {
     let Ok(id) = random_instance(rt) else {
-        return failed(faults, &"read failed");
+        return failed(&mut console.faults, &"read failed");
     };
     if let Ok(true) = has_config(rt, folder) {
-        return failed(faults, &InitError::Exists);
+        return failed(&mut console.faults, &InitError::Exists);
     }
     match create_store(rt, folder) {
-        Ok(mut shelf) => make_on(rt.alloc(), &mut shelf, making, id, output, faults),
-        Err(error) => failed_by(faults, &error, "shelf failed"),
+        Ok(mut shelf) => make_on(rt.alloc(), &mut shelf, making, id, console),
+        Err(error) => failed_by(&mut console.faults, &error, "shelf failed"),
     }
 }

@@ -5,10 +5,10 @@
 //! connections of the machine to itself. [`init_command`] makes a store, and [`serve_connections`] serves one.
 //!
 //! The others are a client's: [`backup_command`], [`snapshots_command`], [`restore_command`], [`forget_command`],
-//! [`foresee_command`], [`prune_command`], [`upgrade_command`] and [`check_command`] bring a job to its end, over connections that are made one after
-//! another ([`Dial`]),
-//! by [`drive_again`]; [`locks_command`], [`refresh_command`] and [`unlock_command`] ask themselves, over one. [`run_errand`]
-//! connects, and [`run`] goes by the words.
+//! [`foresee_command`], [`prune_command`], [`upgrade_command`] and [`check_command`] bring a job to its end, over the
+//! connections of a [`Route`], which are made one after another ([`Dial`]), by [`drive_again`]; [`locks_command`],
+//! [`refresh_command`] and [`unlock_command`] ask themselves, over one. [`run_errand`] connects, and [`run`] goes by the
+//! words. A command tells on a [`Console`].
 //!
 //! Promised: what `frames` writes is the lines of the replies of a run of the store machine, from the
 //! empty store, over the requests of the stream that the input's lines spell; each of its errors comes
@@ -31,6 +31,7 @@ mod check;
 mod choosing;
 mod commands;
 mod connecting;
+mod consoles;
 mod errands;
 mod errors;
 mod foresee;
@@ -46,6 +47,7 @@ mod playing;
 mod printing;
 mod prune;
 mod restore;
+mod routes;
 mod serve;
 mod snapshots;
 mod status;
@@ -55,11 +57,12 @@ mod upgrade;
 mod words;
 
 pub use addresses::is_address;
-pub use backup::{LeavesOut, backup_command, backup_from};
+pub use backup::{LeavesOut, Origin, backup_command, backup_from};
 pub use callers::{Caller, caller_now};
 pub use check::check_command;
 pub use commands::{frames_command, perform, run};
 pub use connecting::{do_errand, run_errand};
+pub use consoles::Console;
 pub use errands::{Errand, LockErrand};
 pub use errors::FramesError;
 pub use foresee::foresee_command;
@@ -72,7 +75,8 @@ pub use playing::{Loopback, loop_command, play_command};
 pub use prune::prune_command;
 pub use repo_dial::{Address, Dial, KnownChannel, Once, Pair, TryError, drive_again};
 pub use repo_play::{PlayError, play};
-pub use restore::restore_command;
+pub use restore::{Restoring, restore_command};
+pub use routes::Route;
 pub use serve::{Serving, serve_connections, serve_folder};
 pub use snapshots::snapshots_command;
 pub use status::{Status, refuse_words};

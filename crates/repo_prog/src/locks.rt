@@ -10,6 +10,7 @@ ghost use Rattle.repo_prog.specs.Tellings.{locks_told, refresh_told, removal_tol
 ghost use Rattle.repo_prog.specs.declared.status.Status.{Status};
 
 use crate::callers::Caller;
+use crate::consoles::Console;
 use crate::status::{Status, failed};
 use crate::telling::{lock_lines, removed_line, show, show_made, unwelcome};
 use repo_dial::{KnownChannel, ask_once};
@@ -21,20 +22,15 @@ use std::alloc::{AllocError, Global};
 use std::io::Write;
 
 /// Writes the live locks of a reply, or tells of a reply that has none.
-fn show_locks<O: Write, F: Write>(
-    alloc: Global,
-    say: &Say,
-    output: &mut O,
-    faults: &mut F,
-) -> Status
-    ensures tells { TellsIfThere (locks_told say.now) result (O.contents output.old) (O.contents output.new) }
-    ensures silent { result ≡ Status.Done → faults.new ≡ faults.old }
+fn show_locks<O: Write, F: Write>(alloc: Global, say: &Say, console: &mut Console<O, F>) -> Status
+    ensures tells { TellsIfThere (locks_told say.now) result (O.contents console.old.output) (O.contents console.new.output) }
+    ensures silent { result ≡ Status.Done → console.new.faults ≡ console.old.faults }
     ensures status { IsEnd result }
 {
     let Say::LockList(rows) = say else {
-        return unwelcome(say, faults);
+        return unwelcome(say, &mut console.faults);
     };
-    show_made(lock_lines(alloc, rows.as_slice()), output, faults)
+    show_made(lock_lines(alloc, rows.as_slice()), console)
 }
 
 /// `vault locks`: lists the live locks, a line each.
@@ -42,29 +38,28 @@ pub fn locks_command<E: KnownChannel, O: Write, F: Write>(
     alloc: Global,
     caller: &Caller,
     channel: &mut E,
-    output: &mut O,
-    faults: &mut F,
+    console: &mut Console<O, F>,
 ) -> Status
-    ensures asked { Asked (request_of caller.now 1 Ask.Locks) locks_told (streams (E.ends channel.old) (O.contents output.old))
-        result (streams (E.ends channel.new) (O.contents output.new)) }
-    ensures silent { result ≡ Status.Done → faults.new ≡ faults.old }
+    ensures asked { Asked (request_of caller.now 1 Ask.Locks) locks_told (streams (E.ends channel.old) (O.contents console.old.output))
+        result (streams (E.ends channel.new) (O.contents console.new.output)) }
+    ensures silent { result ≡ Status.Done → console.new.faults ≡ console.old.faults }
     ensures status { IsEnd result }
 {
     match ask_once(alloc, channel, &caller.request(1, Ask::Locks)) {
-        Ok(reply) => show_locks(alloc, &reply.say, output, faults),
-        Err(error) => failed(faults, &error),
+        Ok(reply) => show_locks(alloc, &reply.say, console),
+        Err(error) => failed(&mut console.faults, &error),
     }
 }
 
 /// Tells that a lock has a new time, or of a reply that says something else.
-fn show_refresh<O: Write, F: Write>(say: &Say, output: &mut O, faults: &mut F) -> Status
-    ensures tells { TellsIfThere (refresh_told say.now) result (O.contents output.old) (O.contents output.new) }
-    ensures silent { result ≡ Status.Done → faults.new ≡ faults.old }
+fn show_refresh<O: Write, F: Write>(say: &Say, console: &mut Console<O, F>) -> Status
+    ensures tells { TellsIfThere (refresh_told say.now) result (O.contents console.old.output) (O.contents console.new.output) }
+    ensures silent { result ≡ Status.Done → console.new.faults ≡ console.old.faults }
     ensures status { IsEnd result }
 {
     match say {
-        Say::Done => show("refreshed\n", output, faults),
-        _ => unwelcome(say, faults),
+        Say::Done => show("refreshed\n", console),
+        _ => unwelcome(say, &mut console.faults),
     }
 }
 
@@ -82,19 +77,18 @@ pub fn refresh_command<E: KnownChannel, O: Write, F: Write>(
     caller: &Caller,
     token: Token,
     channel: &mut E,
-    output: &mut O,
-    faults: &mut F,
+    console: &mut Console<O, F>,
 ) -> Status
     ensures asked { Asked (request_of caller.now 1 (Ask.Refresh token caller.now.time)) refresh_told
-        (streams (E.ends channel.old) (O.contents output.old))
-        result (streams (E.ends channel.new) (O.contents output.new)) }
-    ensures silent { result ≡ Status.Done → faults.new ≡ faults.old }
+        (streams (E.ends channel.old) (O.contents console.old.output))
+        result (streams (E.ends channel.new) (O.contents console.new.output)) }
+    ensures silent { result ≡ Status.Done → console.new.faults ≡ console.old.faults }
     ensures status { IsEnd result }
 {
     let refresh = refresh_of(token, caller.time);
     match ask_once(alloc, channel, &caller.request(1, refresh)) {
-        Ok(reply) => show_refresh(&reply.say, output, faults),
-        Err(error) => failed(faults, &error),
+        Ok(reply) => show_refresh(&reply.say, console),
+        Err(error) => failed(&mut console.faults, &error),
     }
 }
 
@@ -103,39 +97,44 @@ fn show_removal<O: Write, F: Write>(
     alloc: Global,
     token: Token,
     say: &Say,
-    output: &mut O,
-    faults: &mut F,
+    console: &mut Console<O, F>,
 ) -> Status
-    ensures tells { TellsIfThere (removal_told token say.now) result (O.contents output.old) (O.contents output.new) }
-    ensures silent { result ≡ Status.Done → faults.new ≡ faults.old }
+    ensures tells { TellsIfThere (removal_told token say.now) result (O.contents console.old.output) (O.contents console.new.output) }
+    ensures silent { result ≡ Status.Done → console.new.faults ≡ console.old.faults }
     ensures status { IsEnd result }
 {
     match say {
-        Say::Done => show_made(removed_line(alloc, token), output, faults),
-        _ => unwelcome(say, faults),
+        Say::Done => show_made(removed_line(alloc, token), console),
+        _ => unwelcome(say, &mut console.faults),
     }
+}
+
+/// The removal of a token's lock, and the number of the request for it.
+#[derive(Clone, Copy)]
+struct Removal {
+    token: Token,
+    sequence: u64,
 }
 
 /// Removes the lock of a token, by the request of this number, and tells that it is done.
 fn remove_lock<E: KnownChannel, O: Write, F: Write>(
     alloc: Global,
     caller: &Caller,
-    sequence: u64,
-    token: Token,
+    removal: Removal,
     channel: &mut E,
-    output: &mut O,
-    faults: &mut F,
+    console: &mut Console<O, F>,
 ) -> Status
-    ensures asked { Asked (request_of caller.now sequence (Ask.Unlock token)) (removal_told token)
-        (streams (E.ends channel.old) (O.contents output.old))
-        result (streams (E.ends channel.new) (O.contents output.new)) }
-    ensures silent { result ≡ Status.Done → faults.new ≡ faults.old }
+    ensures asked { Asked (request_of caller.now removal.sequence (Ask.Unlock removal.token)) (removal_told removal.token)
+        (streams (E.ends channel.old) (O.contents console.old.output))
+        result (streams (E.ends channel.new) (O.contents console.new.output)) }
+    ensures silent { result ≡ Status.Done → console.new.faults ≡ console.old.faults }
     ensures status { IsEnd result }
 {
+    let Removal { token, sequence } = removal;
     let request = caller.request(sequence, Ask::Unlock(token));
     match ask_once(alloc, channel, &request) {
-        Ok(reply) => show_removal(alloc, token, &reply.say, output, faults),
-        Err(error) => failed(faults, &error),
+        Ok(reply) => show_removal(alloc, token, &reply.say, console),
+        Err(error) => failed(&mut console.faults, &error),
     }
 }
 
@@ -146,18 +145,21 @@ fn remove_locks<E: KnownChannel, O: Write, F: Write>(
     caller: &Caller,
     tokens: &[Token],
     channel: &mut E,
-    output: &mut O,
-    faults: &mut F,
+    console: &mut Console<O, F>,
 ) -> Status
     requires few { length tokens.now < 2 ^ 62 }
-    ensures removes { Removes caller.now tokens.now (streams (E.ends channel.old) (O.contents output.old))
-        result (streams (E.ends channel.new) (O.contents output.new)) }
-    ensures silent { result ≡ Status.Done → faults.new ≡ faults.old }
+    ensures removes { Removes caller.now tokens.now (streams (E.ends channel.old) (O.contents console.old.output))
+        result (streams (E.ends channel.new) (O.contents console.new.output)) }
+    ensures silent { result ≡ Status.Done → console.new.faults ≡ console.old.faults }
     ensures status { IsEnd result }
 {
     let mut sequence = 2;
     for token in tokens {
-        match remove_lock(alloc, caller, sequence, *token, channel, output, faults) {
+        let removal = Removal {
+            token: *token,
+            sequence,
+        };
+        match remove_lock(alloc, caller, removal, channel, console) {
             Status::Done => sequence += 1,
             other => return other,
         }
@@ -190,23 +192,22 @@ pub fn unlock_command<E: KnownChannel, O: Write, F: Write>(
     caller: &Caller,
     all: bool,
     channel: &mut E,
-    output: &mut O,
-    faults: &mut F,
+    console: &mut Console<O, F>,
 ) -> Status
-    ensures unlocks { RemovesLocks caller.now all (streams (E.ends channel.old) (O.contents output.old))
-        result (streams (E.ends channel.new) (O.contents output.new)) }
-    ensures silent { result ≡ Status.Done → faults.new ≡ faults.old }
+    ensures unlocks { RemovesLocks caller.now all (streams (E.ends channel.old) (O.contents console.old.output))
+        result (streams (E.ends channel.new) (O.contents console.new.output)) }
+    ensures silent { result ≡ Status.Done → console.new.faults ≡ console.old.faults }
     ensures status { IsEnd result }
 {
     let reply = match ask_once(alloc, channel, &caller.request(1, Ask::Locks)) {
         Ok(reply) => reply,
-        Err(error) => return failed(faults, &error),
+        Err(error) => return failed(&mut console.faults, &error),
     };
     let Say::LockList(rows) = &reply.say else {
-        return unwelcome(&reply.say, faults);
+        return unwelcome(&reply.say, &mut console.faults);
     };
     match chosen(alloc, rows.as_slice(), caller.time, all) {
-        Ok(tokens) => remove_locks(alloc, caller, tokens.as_slice(), channel, output, faults),
-        Err(_) => failed(faults, &DriveError::Memory),
+        Ok(tokens) => remove_locks(alloc, caller, tokens.as_slice(), channel, console),
+        Err(_) => failed(&mut console.faults, &DriveError::Memory),
     }
 }

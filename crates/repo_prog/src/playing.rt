@@ -4,6 +4,7 @@ ghost use Rattle.std.specs.Prelude.{◌≡◌, ◌≢◌, ℕ, List, Some};
 ghost use Rattle.repo_prog.specs.Commands.{LoopGives, PlayGives};
 ghost use Rattle.repo_prog.specs.declared.status.Status.{Status};
 
+use crate::consoles::Console;
 use crate::status::{Status, failed};
 use repo_play::{Carrier, CarryError, carry, carry_reply, carry_request, play};
 use repo_wire::{Reply, Request};
@@ -16,16 +17,15 @@ use std::net::{Net, OpenListener, SocketAddr, TcpListener, TcpStream};
 pub fn play_command<R: Read, W: Write, F: Write>(
     alloc: Global,
     input: &mut R,
-    output: &mut W,
-    faults: &mut F,
+    console: &mut Console<W, F>,
 ) -> Status
-    ensures gives { (text : List ℕ) → R.remaining input.old ≡ Some text → PlayGives text (W.contents output.old) result (R.remaining input.new) (W.contents output.new) }
-    ensures silent { result ≡ Status.Done → faults.new ≡ faults.old }
+    ensures gives { (text : List ℕ) → R.remaining input.old ≡ Some text → PlayGives text (W.contents console.old.output) result (R.remaining input.new) (W.contents console.new.output) }
+    ensures silent { result ≡ Status.Done → console.new.faults ≡ console.old.faults }
     ensures status { result ≢ Status.Usage }
 {
-    match play(alloc, input, output) {
+    match play(alloc, input, &mut console.output) {
         Ok(()) => Status::Done,
-        Err(error) => failed(faults, &error),
+        Err(error) => failed(&mut console.faults, &error),
     }
 }
 
@@ -114,20 +114,19 @@ impl<T: Net> Carrier for Loopback<'_, T> {
 pub fn loop_command<T: Net + AllocGlobal, R: Read, W: Write, F: Write>(
     rt: &T,
     input: &mut R,
-    output: &mut W,
-    faults: &mut F,
+    console: &mut Console<W, F>,
 ) -> Status
-    ensures gives { (text : List ℕ) → R.remaining input.old ≡ Some text → LoopGives text (W.contents output.old) result
-        (R.remaining input.new) (W.contents output.new) }
-    ensures silent { result ≡ Status.Done → faults.new ≡ faults.old }
+    ensures gives { (text : List ℕ) → R.remaining input.old ≡ Some text → LoopGives text (W.contents console.old.output) result
+        (R.remaining input.new) (W.contents console.new.output) }
+    ensures silent { result ≡ Status.Done → console.new.faults ≡ console.old.faults }
     ensures status { result ≢ Status.Usage }
 {
     let carrier = match Loopback::new(rt, rt.alloc()) {
         Ok(carrier) => carrier,
-        Err(error) => return failed(faults, &error),
+        Err(error) => return failed(&mut console.faults, &error),
     };
-    match carry(rt.alloc(), carrier, input, output) {
+    match carry(rt.alloc(), carrier, input, &mut console.output) {
         Ok(()) => Status::Done,
-        Err(error) => failed(faults, &error),
+        Err(error) => failed(&mut console.faults, &error),
     }
 }

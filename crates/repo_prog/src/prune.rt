@@ -6,6 +6,8 @@ ghost use Rattle.repo_prog.specs.Shown.{ShowsPruned, TellsPruned};
 ghost use Rattle.repo_prog.specs.Jobs.{PruneObeyed};
 
 use crate::callers::{Caller, HOST};
+use crate::consoles::Console;
+use crate::routes::Route;
 use crate::status::{Status, failed};
 use crate::telling::{pruned_line, show_made, unfinished};
 use repo_dial::{Dial, bring};
@@ -18,39 +20,37 @@ use std::io::Write;
 fn show_pruned<O: Write, F: Write>(
     alloc: Global,
     outcome: &Outcome,
-    output: &mut O,
-    faults: &mut F,
+    console: &mut Console<O, F>,
 ) -> Status
-    ensures shows { ShowsPruned outcome.now result (O.contents output.old) (O.contents output.new) }
-    ensures silent { result ≡ Status.Done → faults.new ≡ faults.old }
+    ensures shows { ShowsPruned outcome.now result (O.contents console.old.output) (O.contents console.new.output) }
+    ensures silent { result ≡ Status.Done → console.new.faults ≡ console.old.faults }
 {
     let Outcome::Pruned { packs, bytes } = outcome else {
-        return unfinished(alloc, Some(outcome), faults);
+        return unfinished(alloc, Some(outcome), &mut console.faults);
     };
-    show_made(pruned_line(alloc, *packs, *bytes), output, faults)
+    show_made(pruned_line(alloc, *packs, *bytes), console)
 }
 
-/// `vault prune`: removes what no snapshot needs, and tells how many packs it deleted, and how many bytes of blobs it
-/// put into new ones. After the first connection `retry` more are made at most. Where it ends before, each snapshot still has
-/// all that it needs.
+/// `vault prune`: removes what no snapshot needs, and tells how many packs it deleted, and how many bytes of blobs it put
+/// into new ones. After the first connection `route.retry` more are made at most. Where it ends before, each snapshot still
+/// has all that it needs.
 pub fn prune_command<D: Dial, O: Write, F: Write>(
     alloc: Global,
     caller: &Caller,
-    dial: &mut D,
-    retry: u64,
-    output: &mut O,
-    faults: &mut F,
+    route: &mut Route<D>,
+    console: &mut Console<O, F>,
 ) -> Status
-    ensures obeyed { PruneObeyed caller.now retry (D.connections dial.old) (D.connections dial.new) }
-    ensures tells { TellsPruned caller.now retry (D.connections dial.old) (D.connections dial.new) result (O.contents output.old) (O.contents output.new) }
-    ensures silent { result ≡ Status.Done → faults.new ≡ faults.old }
+    ensures obeyed { PruneObeyed caller.now route.old.retry (D.connections route.old.dial) (D.connections route.new.dial) }
+    ensures tells { TellsPruned caller.now route.old.retry (D.connections route.old.dial) (D.connections route.new.dial) result (O.contents console.old.output) (O.contents console.new.output) }
+    ensures silent { result ≡ Status.Done → console.new.faults ≡ console.old.faults }
+    ensures retry { route.new.retry ≡ route.old.retry }
 {
     let Ok(who) = caller.who(alloc, HOST) else {
-        return failed(faults, &DriveError::Memory);
+        return failed(&mut console.faults, &DriveError::Memory);
     };
     let prune = Prune::new(alloc, who);
-    match bring(alloc, prune, dial, retry) {
-        Ok(outcome) => show_pruned(alloc, &outcome, output, faults),
-        Err(error) => failed(faults, &error),
+    match bring(alloc, prune, &mut route.dial, route.retry) {
+        Ok(outcome) => show_pruned(alloc, &outcome, console),
+        Err(error) => failed(&mut console.faults, &error),
     }
 }

@@ -7,6 +7,8 @@ ghost use Rattle.repo_prog.specs.declared.status.Status.{Status};
 ghost use Rattle.repo_prog.specs.Shown.{ShowsRestored, TellsRestored};
 
 use crate::callers::{Caller, HOST};
+use crate::consoles::Console;
+use crate::routes::Route;
 use crate::status::{Status, failed};
 use crate::telling::{complete_line, show_made, unfinished};
 use repo_dial::{Dial, TryError, bring_into};
@@ -18,26 +20,32 @@ use std::alloc::{AllocGlobal, Global};
 use std::fs::Files;
 use std::io::Write;
 
+/// What is restored: the snapshot of this name, into this folder.
+#[derive(Clone, Copy, Debug)]
+pub struct Restoring<'a> {
+    pub name: Name,
+    pub folder: &'a str,
+}
+
 /// Writes the line of a restore that is complete, once what it gave out is finished, or tells how else the job ended.
 fn show_restored<E: FnOnce() -> bool, O: Write, F: Write>(
     alloc: Global,
     outcome: &Outcome,
     finish: E,
-    output: &mut O,
-    faults: &mut F,
+    console: &mut Console<O, F>,
 ) -> Status
     requires { E.pre finish }
     ensures finished { result ≡ Status.Done → E.post finish true }
-    ensures shows { ShowsRestored outcome.now result (O.contents output.old) (O.contents output.new) }
-    ensures silent { result ≡ Status.Done → faults.new ≡ faults.old }
+    ensures shows { ShowsRestored outcome.now result (O.contents console.old.output) (O.contents console.new.output) }
+    ensures silent { result ≡ Status.Done → console.new.faults ≡ console.old.faults }
 {
     let Outcome::Complete { entries } = outcome else {
-        return unfinished(alloc, Some(outcome), faults);
+        return unfinished(alloc, Some(outcome), &mut console.faults);
     };
     if !finish() {
-        return failed(faults, &DriveError::Sink);
+        return failed(&mut console.faults, &DriveError::Sink);
     }
-    show_made(complete_line(alloc, *entries), output, faults)
+    show_made(complete_line(alloc, *entries), console)
 }
 
 /// Brings a restore to its end, and hands what it gives out to a sink, each part once and in order.
@@ -46,15 +54,15 @@ fn restored<D: Dial, S: FnMut(&Emission) -> bool>(
     caller: &Caller,
     name: Name,
     sink: &mut S,
-    dial: &mut D,
-    retry: u64,
+    route: &mut Route<D>,
 ) -> Result<Outcome, TryError>
     requires callable { (state : S) (x : _) → S.pre state x }
-    ensures { RestoreCame (CalledAt S.FnMut) sink.old caller.now name result retry (D.connections dial.old) (D.connections dial.new) sink.new }
+    ensures came { RestoreCame (CalledAt S.FnMut) sink.old caller.now name result route.old.retry (D.connections route.old.dial) (D.connections route.new.dial) sink.new }
+    ensures retry { route.new.retry ≡ route.old.retry }
 {
     let who = caller.who(alloc, HOST)?;
     let restore = Restore::new(alloc, who, name);
-    bring_into(alloc, restore, sink, dial, retry)
+    bring_into(alloc, restore, sink, &mut route.dial, route.retry)
 }
 
 /// The same of a sink that is handed over.
@@ -63,14 +71,14 @@ fn restored_by<D: Dial, S: FnMut(&Emission) -> bool>(
     caller: &Caller,
     name: Name,
     sink: S,
-    dial: &mut D,
-    retry: u64,
+    route: &mut Route<D>,
 ) -> Result<Outcome, TryError>
     requires callable { (state : S) (x : _) → S.pre state x }
-    ensures { (last : S) × RestoreCame (CalledAt S.FnMut) sink caller.now name result retry (D.connections dial.old) (D.connections dial.new) last }
+    ensures came { (last : S) × RestoreCame (CalledAt S.FnMut) sink caller.now name result route.old.retry (D.connections route.old.dial) (D.connections route.new.dial) last }
+    ensures retry { route.new.retry ≡ route.old.retry }
 {
     let mut sink = sink;
-    restored(alloc, caller, name, &mut sink, dial, retry)
+    restored(alloc, caller, name, &mut sink, route)
 }
 
 /// Tells why a folder can't be restored into.
@@ -88,31 +96,30 @@ fn not_begun<F: Write>(error: RestorerError, faults: &mut F) -> Status
 /// that is given out, or where the restore is complete. What was written before an end stays. All of it is synced before it is
 /// told as complete.
 ///
-/// After the first connection `retry` more are made at most; the folder is begun once, whatever connections it takes. That the
-/// folder then holds what was given out is no clause, since no contract sees a file.
+/// After the first connection `route.retry` more are made at most; the folder is begun once, whatever connections it takes.
+/// That the folder then holds what was given out is no clause, since no contract sees a file.
 pub fn restore_command<T: Files + AllocGlobal + Clone + Drop, D: Dial, O: Write, F: Write>(
     rt: &T,
     caller: &Caller,
-    name: Name,
-    folder: &str,
-    dial: &mut D,
-    retry: u64,
-    output: &mut O,
-    faults: &mut F,
+    restoring: Restoring<'_>,
+    route: &mut Route<D>,
+    console: &mut Console<O, F>,
 ) -> Status
-    ensures obeyed { RestoreObeyed caller.now name retry (D.connections dial.old) (D.connections dial.new) }
-    ensures tells { TellsRestored caller.now name retry (D.connections dial.old) (D.connections dial.new) result (O.contents output.old) (O.contents output.new) }
-    ensures silent { result ≡ Status.Done → faults.new ≡ faults.old }
+    ensures obeyed { RestoreObeyed caller.now restoring.entry.name route.old.retry (D.connections route.old.dial) (D.connections route.new.dial) }
+    ensures tells { TellsRestored caller.now restoring.entry.name route.old.retry (D.connections route.old.dial) (D.connections route.new.dial) result (O.contents console.old.output) (O.contents console.new.output) }
+    ensures silent { result ≡ Status.Done → console.new.faults ≡ console.old.faults }
+    ensures retry { route.new.retry ≡ route.old.retry }
 {
+    let Restoring { name, folder } = restoring;
     let mut restorer = match Restorer::new(rt, folder) {
         Ok(restorer) => restorer,
-        Err(error) => return not_begun(error, faults),
+        Err(error) => return not_begun(error, &mut console.faults),
     };
     let sink = |emission: &Emission| restorer.write(emission);
-    let outcome = match restored_by(rt.alloc(), caller, name, sink, dial, retry) {
+    let outcome = match restored_by(rt.alloc(), caller, name, sink, route) {
         Ok(outcome) => outcome,
-        Err(error) => return failed(faults, &error),
+        Err(error) => return failed(&mut console.faults, &error),
     };
     let finish = || restorer.finish();
-    show_restored(rt.alloc(), &outcome, finish, output, faults)
+    show_restored(rt.alloc(), &outcome, finish, console)
 }

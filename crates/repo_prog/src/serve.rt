@@ -9,6 +9,7 @@ ghost use Rattle.repo_prog.specs.declared.status.Status.{Status};
 ghost use Rattle.repo_store.specs.AppendOnly.{KeepsObjects, OnlyAppends};
 ghost use Rattle.repo_store.specs.Serving.{Ran};
 
+use crate::consoles::Console;
 use crate::listeners::{Arrivals, Listen};
 use crate::status::{Status, failed, failed_by};
 use repo_files::{HoldFile, open_store};
@@ -86,11 +87,17 @@ pub fn serve_connections<L: Listen, S: Shelf, F: Write>(
     status
 }
 
+/// A listener that is bound, and the machine that it is bound at.
+#[derive(Drop)]
+struct Bound<'a, R, L> {
+    rt: &'a R,
+    listener: &'a L,
+}
+
 /// Serves so many connections of a bound listener at once, one request of each in turn. A listener that can't be
 /// waited for is told as `wait failed`.
 fn serve_at_once<R: Net + Clock + AllocGlobal, L: OpenListener + AsRawFd, S: Shelf, F: Write>(
-    rt: &R,
-    listener: &L,
+    bound: &Bound<'_, R, L>,
     serving: Serving,
     shelf: &mut S,
     faults: &mut F,
@@ -108,7 +115,7 @@ where
         at_once: serving.at_once,
         idle: serving.idle,
     };
-    match serve_many(rt, listener, manner, shelf, faults) {
+    match serve_many(bound.rt, bound.listener, manner, shelf, faults) {
         Ok(Served::Well) => Status::Done,
         Ok(Served::WithErrors) => Status::Failed,
         Err(_) => failed(faults, &"wait failed"),
@@ -123,7 +130,13 @@ fn serve_listener<
     A: Listen,
     S: Shelf,
     F: Write,
->(rt: &R, listener: &L, arrivals: &mut A, serving: Serving, shelf: &mut S, faults: &mut F) -> Status
+>(
+    bound: &Bound<'_, R, L>,
+    arrivals: &mut A,
+    serving: Serving,
+    shelf: &mut S,
+    faults: &mut F,
+) -> Status
 where
     L::Stream: Read + Write + OpenStream + AsRawFd,
     ensures served { S.honest shelf.old → serving.at_once ≤ 1 → ServesInTurn A.accepts A.leaves A.Ends.hears A.Ends.says A.Ends.is_over serving.connections result
@@ -136,9 +149,10 @@ where
     ensures status { IsEnd result }
 {
     if serving.at_once > 1 {
-        return serve_at_once(rt, listener, serving, shelf, faults);
+        return serve_at_once(bound, serving, shelf, faults);
     }
-    serve_connections(rt.alloc(), arrivals, serving.connections, shelf, faults)
+    let alloc = bound.rt.alloc();
+    serve_connections(alloc, arrivals, serving.connections, shelf, faults)
 }
 
 /// Serves a shelf as it is to be served, and gives it back. What it has is remembered, so nobody else may write to it.
@@ -151,7 +165,13 @@ fn serve_shelf<
     A: Listen,
     S: Shelf + Drop,
     F: Write,
->(rt: &R, listener: &L, arrivals: &mut A, serving: Serving, shelf: S, faults: &mut F) -> (Status, S)
+>(
+    bound: &Bound<'_, R, L>,
+    arrivals: &mut A,
+    serving: Serving,
+    shelf: S,
+    faults: &mut F,
+) -> (Status, S)
 where
     L::Stream: Read + Write + OpenStream + AsRawFd,
     ensures served { S.honest shelf → serving.at_once ≤ 1 → ServesInTurn A.accepts A.leaves A.Ends.hears A.Ends.says A.Ends.is_over serving.connections result.0
@@ -165,12 +185,12 @@ where
     ensures status { IsEnd result.0 }
 {
     if serving.append_only {
-        let mut kept = Kept::new(rt.alloc(), AppendOnly::new(shelf));
-        let status = serve_listener(rt, listener, arrivals, serving, &mut kept, faults);
+        let mut kept = Kept::new(bound.rt.alloc(), AppendOnly::new(shelf));
+        let status = serve_listener(bound, arrivals, serving, &mut kept, faults);
         return (status, kept.into_inner().into_inner());
     }
-    let mut kept = Kept::new(rt.alloc(), shelf);
-    let status = serve_listener(rt, listener, arrivals, serving, &mut kept, faults);
+    let mut kept = Kept::new(bound.rt.alloc(), shelf);
+    let status = serve_listener(bound, arrivals, serving, &mut kept, faults);
     (status, kept.into_inner())
 }
 
@@ -199,33 +219,36 @@ pub fn serve_folder<R: Files + Net + Clock + AllocGlobal + Clone + Drop, W: Writ
     folder: &str,
     address: &str,
     serving: Serving,
-    output: &mut W,
-    faults: &mut F,
+    console: &mut Console<W, F>,
 ) -> Status
 where
     R::File: HoldFile,
-    ensures silent { result ≡ Status.Done → faults.new ≡ faults.old }
+    ensures silent { result ≡ Status.Done → console.new.faults ≡ console.old.faults }
     ensures status { IsEnd result }
-    ensures written { result ≡ Status.Done → Appends (W.contents output.old) (W.contents output.new) listening_line }
-    ensures cut { result ≡ Status.Failed → IsCutShort (W.contents output.old) (W.contents output.new) listening_line
-        ⊎ Appends (W.contents output.old) (W.contents output.new) listening_line }
+    ensures written { result ≡ Status.Done → Appends (W.contents console.old.output) (W.contents console.new.output) listening_line }
+    ensures cut { result ≡ Status.Failed → IsCutShort (W.contents console.old.output) (W.contents console.new.output) listening_line
+        ⊎ Appends (W.contents console.old.output) (W.contents console.new.output) listening_line }
 {
     let shelf = match open_store(rt, folder) {
         Ok(shelf) => shelf,
-        Err(error) => return failed_by(faults, &error, "shelf failed"),
+        Err(error) => return failed_by(&mut console.faults, &error, "shelf failed"),
     };
     let listener = match TcpListener::bind(rt, address) {
         Ok(listener) => listener,
-        Err(error) => return failed_by(faults, &error, "not reached"),
+        Err(error) => return failed_by(&mut console.faults, &error, "not reached"),
     };
     shelf.folder.disk.clean();
-    if write_whole(output, b"listening\n").is_err() {
-        return failed(faults, &"write failed");
+    if write_whole(&mut console.output, b"listening\n").is_err() {
+        return failed(&mut console.faults, &"write failed");
     }
-    if output.flush().is_err() {
-        return failed(faults, &"write failed");
+    if console.output.flush().is_err() {
+        return failed(&mut console.faults, &"write failed");
     }
     let mut arrivals = Arrivals::at(&listener, serving.idle);
-    let (status, _) = serve_shelf(rt, &listener, &mut arrivals, serving, shelf, faults);
+    let bound = Bound {
+        rt,
+        listener: &listener,
+    };
+    let (status, _) = serve_shelf(&bound, &mut arrivals, serving, shelf, &mut console.faults);
     status
 }

@@ -5,6 +5,7 @@ ghost use Rattle.repo_prog.specs.Commands.{IsEnd};
 ghost use Rattle.repo_prog.specs.Tellings.{lock_word, lock_line, lock_lines, snapshot_line, snapshot_lines, stored_line, complete_line, foreseen_line, foreseen_lines, forgotten_line, forgotten_lines, pruned_line, upgraded_line, clean_line, fault_word, fault_line, fault_lines, removed_line, Shows};
 ghost use Rattle.repo_prog.specs.declared.status.Status.{Status};
 
+use crate::consoles::Console;
 use crate::printing::printed;
 use crate::status::{Status, failed};
 use repo_name::{LockRow, Name, Token};
@@ -190,30 +191,29 @@ pub fn removed_line(alloc: Global, token: Token) -> Result<String, AllocError>
 }
 
 /// Writes a text on the output.
-pub fn show<O: Write, F: Write>(text: &str, output: &mut O, faults: &mut F) -> Status
-    ensures shows { Shows text.now result (O.contents output.old) (O.contents output.new) }
-    ensures silent { result ≡ Status.Done → faults.new ≡ faults.old }
+pub fn show<O: Write, F: Write>(text: &str, console: &mut Console<O, F>) -> Status
+    ensures shows { Shows text.now result (O.contents console.old.output) (O.contents console.new.output) }
+    ensures silent { result ≡ Status.Done → console.new.faults ≡ console.old.faults }
     ensures status { IsEnd result }
 {
-    match write_whole(output, text.as_bytes()) {
+    match write_whole(&mut console.output, text.as_bytes()) {
         Ok(()) => Status::Done,
-        Err(error) => failed(faults, &error),
+        Err(error) => failed(&mut console.faults, &error),
     }
 }
 
 /// Writes lines that were made, or tells that there was no memory for them.
 pub fn show_made<O: Write, F: Write>(
     made: Result<String, AllocError>,
-    output: &mut O,
-    faults: &mut F,
+    console: &mut Console<O, F>,
 ) -> Status
-    ensures shows { (lines : List ℕ) → IfOk made (λ text. string_bytes text ≡ lines) → Shows lines result (O.contents output.old) (O.contents output.new) }
-    ensures silent { result ≡ Status.Done → faults.new ≡ faults.old }
+    ensures shows { (lines : List ℕ) → IfOk made (λ text. string_bytes text ≡ lines) → Shows lines result (O.contents console.old.output) (O.contents console.new.output) }
+    ensures silent { result ≡ Status.Done → console.new.faults ≡ console.old.faults }
     ensures status { IsEnd result }
 {
     match made {
-        Ok(lines) => show(lines.as_str(), output, faults),
-        Err(_) => failed(faults, &DriveError::Memory),
+        Ok(lines) => show(lines.as_str(), console),
+        Err(_) => failed(&mut console.faults, &DriveError::Memory),
     }
 }
 

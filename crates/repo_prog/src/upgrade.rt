@@ -6,6 +6,8 @@ ghost use Rattle.repo_prog.specs.Shown.{ShowsUpgraded, TellsUpgraded};
 ghost use Rattle.repo_prog.specs.Jobs.{UpgradeObeyed};
 
 use crate::callers::{Caller, HOST};
+use crate::consoles::Console;
+use crate::routes::Route;
 use crate::status::{Status, failed};
 use crate::telling::{show_made, unfinished, upgraded_line};
 use repo_dial::{Dial, bring};
@@ -18,38 +20,36 @@ use std::io::Write;
 fn show_upgraded<O: Write, F: Write>(
     alloc: Global,
     outcome: &Outcome,
-    output: &mut O,
-    faults: &mut F,
+    console: &mut Console<O, F>,
 ) -> Status
-    ensures shows { ShowsUpgraded outcome.now result (O.contents output.old) (O.contents output.new) }
-    ensures silent { result ≡ Status.Done → faults.new ≡ faults.old }
+    ensures shows { ShowsUpgraded outcome.now result (O.contents console.old.output) (O.contents console.new.output) }
+    ensures silent { result ≡ Status.Done → console.new.faults ≡ console.old.faults }
 {
     let Outcome::Upgraded = outcome else {
-        return unfinished(alloc, Some(outcome), faults);
+        return unfinished(alloc, Some(outcome), &mut console.faults);
     };
-    show_made(upgraded_line(alloc), output, faults)
+    show_made(upgraded_line(alloc), console)
 }
 
-/// `vault upgrade`: makes the store's config one of version 2, and tells that it is. After the first connection `retry` more are
-/// made at most. Where it ends before, the config is as it was, or of version 2.
+/// `vault upgrade`: makes the store's config one of version 2, and tells that it is. After the first connection
+/// `route.retry` more are made at most. Where it ends before, the config is as it was, or of version 2.
 pub fn upgrade_command<D: Dial, O: Write, F: Write>(
     alloc: Global,
     caller: &Caller,
-    dial: &mut D,
-    retry: u64,
-    output: &mut O,
-    faults: &mut F,
+    route: &mut Route<D>,
+    console: &mut Console<O, F>,
 ) -> Status
-    ensures obeyed { UpgradeObeyed caller.now retry (D.connections dial.old) (D.connections dial.new) }
-    ensures tells { TellsUpgraded caller.now retry (D.connections dial.old) (D.connections dial.new) result (O.contents output.old) (O.contents output.new) }
-    ensures silent { result ≡ Status.Done → faults.new ≡ faults.old }
+    ensures obeyed { UpgradeObeyed caller.now route.old.retry (D.connections route.old.dial) (D.connections route.new.dial) }
+    ensures tells { TellsUpgraded caller.now route.old.retry (D.connections route.old.dial) (D.connections route.new.dial) result (O.contents console.old.output) (O.contents console.new.output) }
+    ensures silent { result ≡ Status.Done → console.new.faults ≡ console.old.faults }
+    ensures retry { route.new.retry ≡ route.old.retry }
 {
     let Ok(who) = caller.who(alloc, HOST) else {
-        return failed(faults, &DriveError::Memory);
+        return failed(&mut console.faults, &DriveError::Memory);
     };
     let upgrade = Upgrade::new(alloc, who);
-    match bring(alloc, upgrade, dial, retry) {
-        Ok(outcome) => show_upgraded(alloc, &outcome, output, faults),
-        Err(error) => failed(faults, &error),
+    match bring(alloc, upgrade, &mut route.dial, route.retry) {
+        Ok(outcome) => show_upgraded(alloc, &outcome, console),
+        Err(error) => failed(&mut console.faults, &error),
     }
 }

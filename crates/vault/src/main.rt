@@ -2,7 +2,7 @@
 //! status that it gives.
 #![tactic(auto)]
 
-use repo_prog::{refuse_words, run};
+use repo_prog::{Console, refuse_words, run};
 use std::io;
 use std::process::ExitCode;
 
@@ -13,16 +13,13 @@ fn words_of(rt: &HostRuntime) -> Option<Vec<String>> {
 
 fn main(rt: HostRuntime) -> ExitCode {
     let (out, err) = (rt.stdout(), rt.stderr());
-    let mut faults = io::writer(&err);
+    let mut console = Console {
+        output: io::writer(&out),
+        faults: io::writer(&err),
+    };
     let status = match words_of(&rt) {
-        Some(words) => run(
-            &rt,
-            &words,
-            &mut rt.reader(),
-            &mut io::writer(&out),
-            &mut faults,
-        ),
-        None => refuse_words(&mut faults),
+        Some(words) => run(&rt, &words, &mut rt.reader(), &mut console),
+        None => refuse_words(&mut console.faults),
     };
     ExitCode::from(status.code())
 }

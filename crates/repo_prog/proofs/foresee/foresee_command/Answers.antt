@@ -7,16 +7,16 @@ use Rattle.repo_prog.proofs.TellLemmas.{nothing_told, tells_as}
 use Rattle.repo_prog.proofs.foresee.foresee_command.Goals as goal
 
 pub returns-then-is_no_policy-clause-obeyed : goal.returns-then-is_no_policy-clause-obeyed
-returns-then-is_no_policy-clause-obeyed g c = list_none c.args.caller.now c.args.retry (g.D.Dial.connections c.args.dial.now)
+returns-then-is_no_policy-clause-obeyed g c = list_none c.args.caller.now c.args.route.now.retry (g.D.Dial.connections c.args.route.now.dial)
 
 pub returns-in_default-clause-obeyed : goal.returns-in_default-clause-obeyed
-returns-in_default-clause-obeyed g c = list_none c.args.caller.now c.args.retry (g.D.Dial.connections c.args.dial.now)
+returns-in_default-clause-obeyed g c = list_none c.args.caller.now c.args.route.now.retry (g.D.Dial.connections c.args.route.now.dial)
 
 pub returns-in-Ok-bring-clause-obeyed : goal.returns-in-Ok-bring-clause-obeyed
-returns-in-Ok-bring-clause-obeyed g c = inr (c.bring.result, subst (λ who. Brought list_rule who c.bring.result c.args.retry (g.D.Dial.connections c.args.dial.now) (g.D.Dial.connections c.bring.new.dial)) (c.new-list.ensures.who ∙ c.in-Ok.ensures) c.bring.ensures.brought)
+returns-in-Ok-bring-clause-obeyed g c = inr (c.bring.result, subst (λ who. Brought list_rule who c.bring.result c.args.route.now.retry (g.D.Dial.connections c.args.route.now.dial) (g.D.Dial.connections c.bring.new.dial)) (c.new-list.ensures.who ∙ c.in-Ok.ensures) c.bring.ensures.brought)
 
 pub returns-in-Err-clause-obeyed : goal.returns-in-Err-clause-obeyed
-returns-in-Err-clause-obeyed g c = inr (c.bring.result, subst (λ who. Brought list_rule who c.bring.result c.args.retry (g.D.Dial.connections c.args.dial.now) (g.D.Dial.connections c.bring.new.dial)) (c.new-list.ensures.who ∙ c.in-Ok.ensures) c.bring.ensures.brought)
+returns-in-Err-clause-obeyed g c = inr (c.bring.result, subst (λ who. Brought list_rule who c.bring.result c.args.route.now.retry (g.D.Dial.connections c.args.route.now.dial) (g.D.Dial.connections c.bring.new.dial)) (c.new-list.ensures.who ∙ c.in-Ok.ensures) c.bring.ensures.brought)
 
 pub returns-then-is_no_policy-clause-tells : goal.returns-then-is_no_policy-clause-tells
 returns-then-is_no_policy-clause-tells g c = nothing_told _ _ _ _ _ c.failed.ensures refl
@@ -26,8 +26,8 @@ returns-in_default-clause-tells g c = nothing_told _ _ _ _ _ c.failed-in_default
 
 pub returns-in-Ok-bring-clause-tells : goal.returns-in-Ok-bring-clause-tells
 returns-in-Ok-bring-clause-tells g c =
-    let ended = subst (λ who. Ended list_rule who c.in-Ok-bring.outcome c.args.retry (g.D.Dial.connections c.args.dial.now) (g.D.Dial.connections c.bring.new.dial)) (c.new-list.ensures.who ∙ c.in-Ok.ensures) c.in-Ok-bring.ensures.brought in
-    tells_as _ _ _ _ _ (λ names is. (is.0, subst (λ o. Ended list_rule (vault_asker c.args.caller.now) o c.args.retry (g.D.Dial.connections c.args.dial.now) (g.D.Dial.connections c.bring.new.dial)) is.1 ended, is.2)) _ c.show_foreseen.ensures.shows
+    let ended = subst (λ who. Ended list_rule who c.in-Ok-bring.outcome c.args.route.now.retry (g.D.Dial.connections c.args.route.now.dial) (g.D.Dial.connections c.bring.new.dial)) (c.new-list.ensures.who ∙ c.in-Ok.ensures) c.in-Ok-bring.ensures.brought in
+    tells_as _ _ _ _ _ (λ names is. (is.0, subst (λ o. Ended list_rule (vault_asker c.args.caller.now) o c.args.route.now.retry (g.D.Dial.connections c.args.route.now.dial) (g.D.Dial.connections c.bring.new.dial)) is.1 ended, is.2)) _ c.show_foreseen.ensures.shows
 
 pub returns-in-Err-clause-tells : goal.returns-in-Err-clause-tells
 returns-in-Err-clause-tells g c = nothing_told _ _ _ _ _ c.failed-in-Err.ensures refl

@@ -7,21 +7,21 @@ use Rattle.repo_prog.proofs.TellLemmas.{nothing_told, tells_as}
 use Rattle.repo_prog.proofs.restore.restore_command.Goals as goal
 
 pub returns-in-Err-clause-obeyed : goal.returns-in-Err-clause-obeyed
-returns-in-Err-clause-obeyed g c = restore_none c.args.caller.now c.args.name c.args.retry (g.D.Dial.connections c.args.dial.now)
+returns-in-Err-clause-obeyed g c = restore_none c.args.caller.now c.args.restoring.name c.args.route.now.retry (g.D.Dial.connections c.args.route.now.dial)
 
 pub returns-in-Err-clause-tells : goal.returns-in-Err-clause-tells
 returns-in-Err-clause-tells g c = nothing_told _ _ _ _ _ c.not_begun.ensures refl
 
 pub returns-in-Err-restored_by-clause-obeyed : goal.returns-in-Err-restored_by-clause-obeyed
-returns-in-Err-restored_by-clause-obeyed g c = came_obeyed _ _ c.args.caller.now c.args.name c.args.retry (g.D.Dial.connections c.args.dial.now) (g.D.Dial.connections c.restored_by.new.dial) _ _ c.restored_by.ensures.1
+returns-in-Err-restored_by-clause-obeyed g c = came_obeyed _ _ c.args.caller.now c.args.restoring.name c.args.route.now.retry (g.D.Dial.connections c.args.route.now.dial) (g.D.Dial.connections c.restored_by.new.route.dial) _ _ c.restored_by.ensures.came.1
 
 pub returns-clause-obeyed : goal.returns-clause-obeyed
-returns-clause-obeyed g c = came_obeyed _ _ c.args.caller.now c.args.name c.args.retry (g.D.Dial.connections c.args.dial.now) (g.D.Dial.connections c.restored_by.new.dial) _ _ c.restored_by.ensures.1
+returns-clause-obeyed g c = came_obeyed _ _ c.args.caller.now c.args.restoring.name c.args.route.now.retry (g.D.Dial.connections c.args.route.now.dial) (g.D.Dial.connections c.restored_by.new.route.dial) _ _ c.restored_by.ensures.came.1
 
 pub returns-in-Err-restored_by-clause-tells : goal.returns-in-Err-restored_by-clause-tells
 returns-in-Err-restored_by-clause-tells g c = nothing_told _ _ _ _ _ c.failed.ensures refl
 
 pub returns-clause-tells : goal.returns-clause-tells
 returns-clause-tells g c =
-    let ended = came_ended _ _ c.args.caller.now c.args.name c.args.retry (g.D.Dial.connections c.args.dial.now) (g.D.Dial.connections c.restored_by.new.dial) _ c.in-Ok-restored_by.outcome c.in-Ok-restored_by.ensures.1 in
-    tells_as _ _ _ _ _ (λ entries is. subst (λ o. Ended (restore_rule c.args.name) (vault_asker c.args.caller.now) o c.args.retry (g.D.Dial.connections c.args.dial.now) (g.D.Dial.connections c.restored_by.new.dial)) is ended.brought) _ c.show_restored.ensures.shows
+    let ended = came_ended _ _ c.args.caller.now c.args.restoring.name c.args.route.now.retry (g.D.Dial.connections c.args.route.now.dial) (g.D.Dial.connections c.restored_by.new.route.dial) _ c.in-Ok-restored_by.outcome c.in-Ok-restored_by.ensures.came.1 in
+    tells_as _ _ _ _ _ (λ entries is. subst (λ o. Ended (restore_rule c.args.restoring.name) (vault_asker c.args.caller.now) o c.args.route.now.retry (g.D.Dial.connections c.args.route.now.dial) (g.D.Dial.connections c.restored_by.new.route.dial)) is ended.brought) _ c.show_restored.ensures.shows

@@ -7,23 +7,23 @@ use Rattle.repo_prog.proofs.TellLemmas.{nothing_told, tells_as}
 use Rattle.repo_prog.proofs.upgrade.upgrade_command.Goals as goal
 
 pub returns-in_default-clause-obeyed : goal.returns-in_default-clause-obeyed
-returns-in_default-clause-obeyed g c = upgrade_none c.args.caller.now c.args.retry (g.D.Dial.connections c.args.dial.now)
+returns-in_default-clause-obeyed g c = upgrade_none c.args.caller.now c.args.route.now.retry (g.D.Dial.connections c.args.route.now.dial)
 
 pub returns-in-Ok-bring-clause-obeyed : goal.returns-in-Ok-bring-clause-obeyed
 returns-in-Ok-bring-clause-obeyed g c =
-    inr (c.bring.result, subst (λ who. Brought upgrade_rule who c.bring.result c.args.retry (g.D.Dial.connections c.args.dial.now) (g.D.Dial.connections c.bring.new.dial)) (c.new-upgrade.ensures.who ∙ c.in-Ok.ensures) c.bring.ensures.brought)
+    inr (c.bring.result, subst (λ who. Brought upgrade_rule who c.bring.result c.args.route.now.retry (g.D.Dial.connections c.args.route.now.dial) (g.D.Dial.connections c.bring.new.dial)) (c.new-upgrade.ensures.who ∙ c.in-Ok.ensures) c.bring.ensures.brought)
 
 pub returns-in-Err-clause-obeyed : goal.returns-in-Err-clause-obeyed
 returns-in-Err-clause-obeyed g c =
-    inr (c.bring.result, subst (λ who. Brought upgrade_rule who c.bring.result c.args.retry (g.D.Dial.connections c.args.dial.now) (g.D.Dial.connections c.bring.new.dial)) (c.new-upgrade.ensures.who ∙ c.in-Ok.ensures) c.bring.ensures.brought)
+    inr (c.bring.result, subst (λ who. Brought upgrade_rule who c.bring.result c.args.route.now.retry (g.D.Dial.connections c.args.route.now.dial) (g.D.Dial.connections c.bring.new.dial)) (c.new-upgrade.ensures.who ∙ c.in-Ok.ensures) c.bring.ensures.brought)
 
 pub returns-in_default-clause-tells : goal.returns-in_default-clause-tells
 returns-in_default-clause-tells g c = nothing_told _ _ _ _ _ c.failed.ensures refl
 
 pub returns-in-Ok-bring-clause-tells : goal.returns-in-Ok-bring-clause-tells
 returns-in-Ok-bring-clause-tells g c =
-    let ended = subst (λ who. Ended upgrade_rule who c.in-Ok-bring.outcome c.args.retry (g.D.Dial.connections c.args.dial.now) (g.D.Dial.connections c.bring.new.dial)) (c.new-upgrade.ensures.who ∙ c.in-Ok.ensures) c.in-Ok-bring.ensures.brought in
-    tells_as _ _ _ _ _ (λ it is. subst (λ o. Ended upgrade_rule (vault_asker c.args.caller.now) o c.args.retry (g.D.Dial.connections c.args.dial.now) (g.D.Dial.connections c.bring.new.dial)) is ended) _ c.show_upgraded.ensures.shows
+    let ended = subst (λ who. Ended upgrade_rule who c.in-Ok-bring.outcome c.args.route.now.retry (g.D.Dial.connections c.args.route.now.dial) (g.D.Dial.connections c.bring.new.dial)) (c.new-upgrade.ensures.who ∙ c.in-Ok.ensures) c.in-Ok-bring.ensures.brought in
+    tells_as _ _ _ _ _ (λ it is. subst (λ o. Ended upgrade_rule (vault_asker c.args.caller.now) o c.args.route.now.retry (g.D.Dial.connections c.args.route.now.dial) (g.D.Dial.connections c.bring.new.dial)) is ended) _ c.show_upgraded.ensures.shows
 
 pub returns-in-Err-clause-tells : goal.returns-in-Err-clause-tells
 returns-in-Err-clause-tells g c = nothing_told _ _ _ _ _ c.failed-in-Err.ensures refl
