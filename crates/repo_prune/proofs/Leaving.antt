@@ -1,5 +1,5 @@
 -- What a forget leaves that is alone with its store, and tells what it forgot.
-use Rattle.std.proofs.Common.{◌≡◌, ◌⊎◌, ◌++◌, ◌∷◌, [], ℕ, true, false, List, cond, map, Some, refl, sym, ap, subst, inl, inr, ⊎_elim, append-nil, ◌∙◌}
+use Rattle.std.proofs.Common.{◌≡◌, ◌⊎◌, ◌++◌, ◌∷◌, [], ℕ, true, false, List, cond, map, Some, None, refl, sym, ap, subst, inl, inr, ⊎_elim, append-nil, ◌∙◌}
 use Rattle.std.proofs.lemmas.Option.{same_Some}
 use Rattle.repo_name.specs.declared.kinds.Kind.{Kind}
 use Rattle.repo_name.specs.declared.names.Name.{Name}
@@ -8,7 +8,7 @@ use Rattle.repo_wire.specs.declared.messages.Ask.{Ask}
 use Rattle.repo_wire.specs.declared.messages.Say.{Say}
 use Rattle.repo_tree.specs.SnapshotText.{IsSnapshotText}
 use Rattle.repo_tree.proofs.SnapshotLemmas.{snapshot_texts_one}
-use Rattle.repo_store.specs.Pages.{Has}
+use Rattle.repo_store.specs.Pages.{Has, NamesAscend}
 use Rattle.repo_store.specs.StoreMachine.{object_limit, Answers, Step}
 use Rattle.repo_store.specs.Stores.{Store}
 use Rattle.repo_session.specs.declared.outcomes.Outcome.{Outcome}
@@ -177,10 +177,12 @@ chosen_from who (Choice.Names names) from talk to rows es among same o h complet
 chosen_from who (Choice.Keep policy) from talk to rows es among same o h complete known = record {
   each = stored who (Choice.Keep policy) from talk to rows es among o h known.each;
   all = λ n x there. subst (λ ns. Has ns n) (sym (known.names ∙ same)) (listed who (Choice.Keep policy) from talk to n x o h complete there);
+  ascend = subst (λ ns. NamesAscend None ns) (sym known.names) known.listed.rise.ascend;
 }
 chosen_from who (Choice.KeepOf host policy) from talk to rows es among same o h complete known = record {
   each = stored who (Choice.KeepOf host policy) from talk to rows es among o h known.each;
   all = λ n x there. subst (λ ns. Has ns n) (sym (known.names ∙ same)) (listed who (Choice.KeepOf host policy) from talk to n x o h complete there);
+  ascend = subst (λ ns. NamesAscend None ns) (sym known.names) known.listed.rise.ascend;
 }
 
 -- what is chosen by one reading is chosen by the other

@@ -5,7 +5,7 @@ use Rattle.repo_name.specs.declared.names.Name.{Name}
 use Rattle.repo_wire.specs.declared.messages.Code.{Code}
 use Rattle.repo_wire.specs.declared.messages.Request.{Request}
 use Rattle.repo_store.specs.Laws.{greatest_count}
-use Rattle.repo_store.specs.Pages.{Has}
+use Rattle.repo_store.specs.Pages.{Has, NamesAscend}
 use Rattle.repo_store.specs.Stores.{Store}
 use Rattle.repo_tree.specs.SnapshotText.{IsSnapshotText}
 use Rattle.repo_session.specs.Versions.{upto}
@@ -58,10 +58,11 @@ abbrev pub ForgetOfAppendOnly : Type 0
 ForgetOfAppendOnly = (who : Asker) (choice : Choice) (from to : Store) (failed : ℕ) (talk : Talk) (outcome : Option Outcome)
     → IsFit from → AreVersionsUpto (upto (forget_task who).versions) from → from.append_only ≡ true → AreStoredApart from → failed < greatest_count → TalkRan from failed talk to failed → length talk < 2 ^ 64 - 1 → IsObedientBy (forget_rule choice) who None outcome (trace_of talk) → ForgetsNothing outcome
 
--- rows are those of a store's snapshots: each is what the store has under its name, and none is left out
+-- rows are those of a store's snapshots: each is what the store has under its name, none is left out, and each is there once, ascending by name
 pub record AreSnapshotsOf (store : Store) (rows : List Row) : Type 0 where
   pub each : Each (λ (row : Row). (x : List ℕ) × (store.objects Kind.Snapshot row.0 ≡ Some x) × IsSnapshotText x row.1) rows
   pub all : (n : Name) (x : List ℕ) → store.objects Kind.Snapshot n ≡ Some x → Has (map (λ (row : Row). row.0) rows) n
+  pub ascend : NamesAscend None (map (λ (row : Row). row.0) rows)
 
 -- where a policy chooses, the rows are those of the store's snapshots
 abbrev pub AreChosenFrom : Choice → Store → List Row → Type 0

@@ -6,7 +6,7 @@ ghost use Rattle.repo_wire.specs.Stream.{FitsFrame};
 ghost use Rattle.repo_store.specs.Runs.{Replies};
 ghost use Rattle.repo_store.specs.AppendOnly.{OnlyAppends};
 ghost use Rattle.repo_store.specs.Failing.{AnswersAsArmed};
-ghost use Rattle.repo_store.specs.StoreMachine.{refusal, IsAnswerable, IsQuiet, IsRuledOut, Step, SaysFault};
+ghost use Rattle.repo_store.specs.StoreMachine.{refusal, IsAnswerable, IsQuiet, IsRuledOut, Looks, Step, SaysFault};
 
 use crate::lock_answers::{
     answer_lock, answer_locks, answer_refresh, answer_ticket, answer_unlock,
@@ -37,6 +37,7 @@ fn say_to<S: Shelf>(alloc: Global, shelf: &mut S, ask: &Ask) -> Say
     ensures cause { S.honest shelf.old → SaysFault (S.failed shelf.old) result (S.failed shelf.new) }
     ensures armed { AnswersAsArmed S.honest S.armed S.own S.store shelf.old ask.now result shelf.new }
     ensures honest { S.honest shelf.old → S.honest shelf.new }
+    ensures before { S.honest shelf.old → ¬ Looks (S.store shelf.old) ask.now → shelf.new ≡ shelf.old }
     ensures once { S.writes shelf.new ≤ S.writes shelf.old + 1 }
     ensures quiet { S.honest shelf.old → IsQuiet (S.store shelf.old) ask.now → S.writes shelf.new ≡ S.writes shelf.old }
     ensures ruled_out { IsRuledOut result → S.writes shelf.new ≡ S.writes shelf.old }
@@ -89,7 +90,7 @@ fn reply_to(instance: Instance, sequence: u64, say: Say) -> Reply
 /// just that call, and then no more. After every other refusal the store is as before. A store that only appends
 /// keeps each object. The shelf is asked to write at most once; and not at all for a request that only reads, a
 /// lock that is held already, an unlock that changes nothing, an upgrade of a config that is of version 2
-/// already, and where the refusal is another than 10 and 11.
+/// already, and where the refusal is another than 10 and 11. What is answered before the shelf is looked at leaves it as it was.
 pub fn answer<S: Shelf>(alloc: Global, shelf: &mut S, request: &Request) -> Reply
     requires { IsAnswerable request.now.ask }
     ensures replies { S.honest shelf.old → Replies (S.store shelf.old) request.now result (S.store shelf.new) }
@@ -97,6 +98,7 @@ pub fn answer<S: Shelf>(alloc: Global, shelf: &mut S, request: &Request) -> Repl
     ensures cause { S.honest shelf.old → SaysFault (S.failed shelf.old) result.say (S.failed shelf.new) }
     ensures armed { AnswersAsArmed S.honest S.armed S.own S.store shelf.old request.now.ask result.say shelf.new }
     ensures honest { S.honest shelf.old → S.honest shelf.new }
+    ensures before { S.honest shelf.old → ¬ Looks (S.store shelf.old) request.now.ask → shelf.new ≡ shelf.old }
     ensures once { S.writes shelf.new ≤ S.writes shelf.old + 1 }
     ensures quiet { S.honest shelf.old → IsQuiet (S.store shelf.old) request.now.ask → S.writes shelf.new ≡ S.writes shelf.old }
     ensures ruled_out { IsRuledOut result.say → S.writes shelf.new ≡ S.writes shelf.old }
