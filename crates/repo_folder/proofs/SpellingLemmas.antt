@@ -273,11 +273,6 @@ made_told W s t result tells e k = subst (λ r. OnOk r (W s t) × OnErr r (Stays
     made (Err DiskError.Failed) is = (tt, is)
     made (Err DiskError.Memory) is = (tt, inl is)
 
--- what is told as an error left all as it was, where the call only reads
-pub read_told : {T : Type 0} (P : T → Type 0) (s t : State) (result : Result T DiskError) → Shows P s result t → Stays s t
-read_told P s t (Ok x) is = is.1
-read_told P s t (Err e) is = is
-
 caused : {T : Type 0} (old new : ℕ) (result : Result T DiskError) → disks.HasCause old result new → HasCause old (told result) new
 caused old new (Ok x) h = h
 caused old new (Err DiskError.Failed) h = h

@@ -1,4 +1,4 @@
-use Rattle.std.proofs.Common.{rules, ◌≡◌, ◌∙◌, Some, sym, ap}
+use Rattle.std.proofs.Common.{rules, ◌≡◌, ◌∙◌, Some, sym}
 use Rattle.repo_locks.specs.LedgerBytes.{ledger_bytes}
 use Rattle.repo_locks.proofs.Texts.{ledgers_one}
 use Rattle.repo_folder.proofs.dir_shelf.ledger_of.Goals as goal
