@@ -82,24 +82,32 @@ fn answered<S: Shelf>(
     lockstep_fed(alloc, backup, shelf)
 }
 
-/// Feeds an item once, or what is left of a piece of which so many bytes were taken, and answers what is pending then. It
-/// gives how many bytes of a piece were taken, and how many requests were answered.
+/// What a backup is offered: an item, by its place among all, counted from 0; or what is left of it, a piece, of which so many
+/// first bytes were taken.
+#[derive(Clone, Copy, Debug)]
+struct Offer<'a> {
+    place: usize,
+    taken: usize,
+    item: Item<'a>,
+}
+
+/// Feeds an item once, or what is left of it, and answers what is pending then. It gives how many bytes of a piece were
+/// taken, and how many requests were answered.
 fn feed_once<S: Shelf>(
     alloc: Global,
     backup: &mut PieceBackup,
-    place: usize,
-    taken: usize,
-    item: Item,
+    offer: Offer,
     shelf: &mut S,
 ) -> Result<(usize, u64), ItemsError>
     requires { IsHungry backup.old }
-    ensures goes { S.honest shelf.old → GoesOn (OnceGives place taken item.entry result) backup.old (S.store shelf.old) (S.failed shelf.old) backup.new (S.store shelf.new) (S.failed shelf.new) }
+    ensures goes { S.honest shelf.old → GoesOn (OnceGives offer.entry.place offer.entry.taken offer.entry.item result) backup.old (S.store shelf.old) (S.failed shelf.old) backup.new (S.store shelf.new) (S.failed shelf.new) }
     ensures settled { S.honest shelf.old → IfOk result (λ r. next_in backup.new.session ≡ None) }
     ensures wants { IfErr result (λ e. WantsStill e backup.new) }
-    ensures few { IfOk result (λ r. IsCountOf r.0 item.entry × (r.1 ≤ 2 ^ 32)) }
+    ensures few { IfOk result (λ r. IsCountOf r.0 offer.entry.item × (r.1 ≤ 2 ^ 32)) }
     ensures honest { S.honest shelf.old → S.honest shelf.new }
     ensures who { who_in backup.new.session ≡ who_in backup.old.session }
 {
+    let Offer { place, taken, item } = offer;
     let count = match backup.feed(item) {
         Ok(count) => count,
         Err(error) => {
@@ -130,10 +138,20 @@ fn feed_piece<S: Shelf>(
     ensures honest { S.honest shelf.old → S.honest shelf.new }
     ensures who { who_in backup.new.session ≡ who_in backup.old.session }
 {
-    let (mut done, mut asked) = feed_once(alloc, backup, place, 0, Item::Bytes(piece), shelf)?;
+    let first = Offer {
+        place,
+        taken: 0,
+        item: Item::Bytes(piece),
+    };
+    let (mut done, mut asked) = feed_once(alloc, backup, first, shelf)?;
     while done < piece.len() && backup.wants() {
         let (_, rest) = piece.split_at(done);
-        let (count, more) = feed_once(alloc, backup, place, done, Item::Bytes(rest), shelf)?;
+        let next = Offer {
+            place,
+            taken: done,
+            item: Item::Bytes(rest),
+        };
+        let (count, more) = feed_once(alloc, backup, next, shelf)?;
         done += count;
         asked = sum_of(asked, more)?;
     }
@@ -159,7 +177,12 @@ fn feed_item<S: Shelf>(
     if let Item::Bytes(piece) = item {
         return feed_piece(alloc, backup, place, piece, shelf);
     }
-    let (_, asked) = feed_once(alloc, backup, place, 0, *item, shelf)?;
+    let whole = Offer {
+        place,
+        taken: 0,
+        item: *item,
+    };
+    let (_, asked) = feed_once(alloc, backup, whole, shelf)?;
     Ok(asked)
 }
 

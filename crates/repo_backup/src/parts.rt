@@ -47,36 +47,42 @@ pub fn between(nodes: &[Node], from: usize, end: usize) -> &[Node]
     &nodes[from.min(end)..end]
 }
 
-/// The text of a part that goes on so; `None` where it is above 8,388,608 bytes. It fails for memory alone.
-fn text_of(alloc: Global, nodes: &[Node], next: Option<Name>) -> Result<Option<Vec<u8>>, AllocError>
-    ensures { IfOk result (λ made. MatchOption made (blob_limit < length (part_text nodes.now next))
-        (λ text. (text.items ≡ part_text nodes.now next) × IsPartText text.items nodes.now next × (1 ≤ length text.items))) }
+/// A part of a directory: its nodes, and the name of the tree in which the directory goes on, if it goes on.
+#[derive(Clone, Copy)]
+pub struct Part<'a> {
+    pub nodes: &'a [Node],
+    pub next: Option<Name>,
+}
+
+/// The text of a part; `None` where it is above 8,388,608 bytes. It fails for memory alone.
+fn text_of(alloc: Global, part: Part) -> Result<Option<Vec<u8>>, AllocError>
+    ensures { IfOk result (λ made. MatchOption made (blob_limit < length (part_text part.entry.nodes part.entry.next))
+        (λ text. (text.items ≡ part_text part.entry.nodes part.entry.next) × IsPartText text.items part.entry.nodes part.entry.next × (1 ≤ length text.items))) }
 {
-    match write_part(alloc, nodes, next.as_ref()) {
+    match write_part(alloc, part.nodes, part.next.as_ref()) {
         Ok(text) => Ok(Some(text)),
         Err(TreeError::TooLarge) => Ok(None),
         Err(_) => Err(AllocError),
     }
 }
 
-/// Makes a part of these nodes, which goes on so, a blob, and packs it; `None` where its text is above 8,388,608 bytes. It
-/// fails for memory alone, and then all stands as it stood.
+/// Makes a part a blob, and packs it; `None` where its text is above 8,388,608 bytes. It fails for memory alone, and then
+/// all stands as it stood.
 pub fn pack_part(
     packing: &mut Packing,
     alloc: Global,
     lookup: &Lookup,
-    nodes: &[Node],
-    next: Option<Name>,
+    part: Part,
     sealing: Sealing,
 ) -> Result<Option<Packed>, AllocError>
     requires open { IsOpen packing.old.packer.writer }
     requires unsealed { packing.old.packer.sealed ≡ None }
-    ensures ok { IfOk result (λ packed. PacksPart lookup.now sealing nodes.now next packing.old packed packing.new) }
+    ensures ok { IfOk result (λ packed. PacksPart lookup.now sealing part.entry.nodes part.entry.next packing.old packed packing.new) }
     ensures left { IfOk result (λ packed. LeavesPart sealing packing.old packed packing.new) }
     ensures aims { AimsOn packing.old packing.new }
     ensures err { OnErr result (StaysPacked lookup.now packing.old packing.new) }
 {
-    let Some(text) = text_of(alloc, nodes, next)? else {
+    let Some(text) = text_of(alloc, part)? else {
         return Ok(None);
     };
     let packed = packing.pack(lookup, BlobKind::Tree, &text, sealing)?;

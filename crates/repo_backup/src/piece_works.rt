@@ -18,7 +18,7 @@ ghost use Rattle.repo_backup.specs.declared.parts.PartsLeft.{PartsLeft};
 use crate::ended::Ended;
 use crate::items::{FeedError, Item};
 use crate::packing::{Packed, Packing, Sealing};
-use crate::parts::{PartsLeft, between, pack_part, sizes_by};
+use crate::parts::{Part, PartsLeft, between, pack_part, sizes_by};
 use crate::pieces::{PieceFile, PieceWalk, Scanned};
 use repo_chunk::Params;
 use repo_index::{Lookup, PackFacts};
@@ -444,14 +444,11 @@ impl PieceWork {
         };
         let from = left.count.saturating_sub(size);
         let nodes = between(self.walk.nodes.as_slice(), from, left.count);
-        match pack_part(
-            &mut self.packing,
-            self.alloc,
-            lookup,
+        let part = Part {
             nodes,
-            left.next,
-            Sealing::Due,
-        ) {
+            next: left.next,
+        };
+        match pack_part(&mut self.packing, self.alloc, lookup, part, Sealing::Due) {
             Ok(Some(Packed { name, listed })) => {
                 left.count = from;
                 left.next = Some(name);
@@ -486,14 +483,8 @@ impl PieceWork {
     {
         let (count, next) = self.what_is_left();
         let nodes = between(self.walk.nodes.as_slice(), 0, count);
-        let packed = pack_part(
-            &mut self.packing,
-            self.alloc,
-            lookup,
-            nodes,
-            next,
-            Sealing::Last,
-        )?;
+        let part = Part { nodes, next };
+        let packed = pack_part(&mut self.packing, self.alloc, lookup, part, Sealing::Last)?;
         let Some(Packed { name, listed }) = packed else {
             return Ok(Took::TooLarge);
         };
@@ -521,14 +512,8 @@ impl PieceWork {
         self.walk.make_room_around()?;
         let (count, next) = self.what_is_left();
         let nodes = between(self.walk.nodes.as_slice(), 0, count);
-        let packed = pack_part(
-            &mut self.packing,
-            self.alloc,
-            lookup,
-            nodes,
-            next,
-            Sealing::Due,
-        )?;
+        let part = Part { nodes, next };
+        let packed = pack_part(&mut self.packing, self.alloc, lookup, part, Sealing::Due)?;
         let Some(Packed { name, listed }) = packed else {
             return Ok(Took::TooLarge);
         };

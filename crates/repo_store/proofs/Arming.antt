@@ -49,8 +49,8 @@ has_failed own between owned less (stays, inr most) = inr most
 
 module _ (W : Store → Store → Type 0) (mid left : Armed) (own between owned : ℕ) (s new : Store) (less : own ≤ between) where
   spent : (x : Bool) (e : ShelfError) → fails_writing mid ≡ Some x → ArmIsSpent mid (Err e) left → IsLeft (HasFailed own owned) mid (refusal e) left
-  spent x ShelfError.Fault h is = inl (is_armed mid x h, is)
-  spent x ShelfError.Memory h (inl is) = inl (is_armed mid x h, is)
+  spent x ShelfError.Fault h is = inl (is_armed mid x h, is, inl refl)
+  spent x ShelfError.Memory h (inl is) = inl (is_armed mid x h, is, inr refl)
   spent x ShelfError.Memory h (inr is) = inr (subst (StillWaits mid) (sym is) (waits_itself mid), λ told. absurd (unrefused told))
 
   passed : (e : ShelfError) → HasCause {T = Unit {0}} between (Err e) owned → IsPassed mid (Err e) left → IsLeft (HasFailed own owned) mid (refusal e) left
@@ -66,7 +66,7 @@ module _ (W : Store → Store → Type 0) (mid left : Armed) (own between owned 
     go None h = passed e (w.2 h).0 (w.2 h).1
 
 left_before : (Own : Type 0) (armed mid left : Armed) (say : Say) → StillWaits armed mid → IsLeft Own mid say left → IsLeft Own armed say left
-left_before Own armed mid left say p (inl (some, is)) = inl (armed_before armed mid p some, is)
+left_before Own armed mid left say p (inl (some, is, told)) = inl (armed_before armed mid p some, is, told)
 left_before Own armed mid left say p (inr (q, told)) = inr (waits_on armed mid left p q, told)
 
 -- an answer's change of the store, after the ledger was read: s is the store then
