@@ -62,6 +62,10 @@ LeavesOthers old place new = (j : ℕ) → j ≢ place → slice_get new j ≡ s
 abbrev pub StaysGuest : List Guest → ℕ → List Guest → Type 0
 StaysGuest old place new = (g h : Guest) → slice_get old place ≡ Some g → slice_get new place ≡ Some h → h.number ≡ g.number
 
+-- at one place is the guest that was there, and at all others they are as they were
+abbrev pub StaysAt : Hall → ℕ → Hall → Type 0
+StaysAt old place new = LeavesOthers old.guests.items place new.guests.items × StaysGuest old.guests.items place new.guests.items
+
 -- from wherever a hall stands, this happens to the guest at a place, and to the store nothing
 abbrev pub HappensAt : (ℕ → Happening) → Hall → ℕ → Hall → Type 0
 HappensAt what old place new = (from to : Store) (failed failing : ℕ) (log : Log) → Stands from failed old.guests.items old.entered log to failing

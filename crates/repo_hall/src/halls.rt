@@ -4,7 +4,7 @@ ghost use Rattle.std.specs.Prelude.{IsFalse, IsTrue, IsErr, ◌↔◌, ◌≡◌
 ghost use Rattle.repo_store.specs.Serving.{Ran};
 ghost use Rattle.repo_store.specs.Stores.{Store};
 ghost use Rattle.repo_hall.specs.Guests.{AnswerCause, IsNewGuest, out_of};
-ghost use Rattle.repo_hall.specs.Halls.{Stands, AnswersAt, HappensAt, NothingHappens, LeavesOthers, StaysGuest};
+ghost use Rattle.repo_hall.specs.Halls.{Stands, AnswersAt, HappensAt, NothingHappens, LeavesOthers, StaysAt};
 ghost use Rattle.repo_hall.specs.Happenings.{Brought, Given};
 ghost use Rattle.repo_hall.specs.declared.guests.Guest.{Guest};
 ghost use Rattle.repo_hall.specs.declared.halls.HallError.{HallError};
@@ -101,8 +101,7 @@ impl Hall {
         ensures ok { OnOk result (HappensAt (λ n. Brought n piece.now) self.old place self.new) }
         ensures err { OnErr result (NothingHappens self.old self.new) }
         ensures places { length self.new.guests.items ≡ length self.old.guests.items }
-        ensures others { LeavesOthers self.old.guests.items place self.new.guests.items }
-        ensures guest { StaysGuest self.old.guests.items place self.new.guests.items }
+        ensures guests { StaysAt self.old place self.new }
     {
         self.guests[place].feed(piece)
     }
@@ -146,8 +145,7 @@ impl Hall {
         ensures stands { (g : Guest) → slice_get self.old.guests.items place ≡ Some g
             → HappensAt (λ n. Given n (take count (out_of g))) self.old place self.new }
         ensures places { length self.new.guests.items ≡ length self.old.guests.items }
-        ensures others { LeavesOthers self.old.guests.items place self.new.guests.items }
-        ensures guest { StaysGuest self.old.guests.items place self.new.guests.items }
+        ensures guests { StaysAt self.old place self.new }
     {
         self.guests[place].gave(count);
     }
@@ -169,8 +167,7 @@ impl Hall {
         ensures over { IsErr result → (g : Guest) → slice_get self.new.guests.items place ≡ Some g → g.ended ≡ true }
         ensures honest { S.honest shelf.old → S.honest shelf.new }
         ensures places { length self.new.guests.items ≡ length self.old.guests.items }
-        ensures others { LeavesOthers self.old.guests.items place self.new.guests.items }
-        ensures guest { StaysGuest self.old.guests.items place self.new.guests.items }
+        ensures guests { StaysAt self.old place self.new }
     {
         let alloc = self.alloc;
         self.guests[place].answer_next(alloc, shelf)

@@ -1,9 +1,7 @@
 -- How connections end.
 use Rattle.std.specs.Prelude.{◌≡◌, ◌⊎◌, [], ⊤, ℕ, true, List, slice_get, Some}
 use Rattle.repo_hall.specs.Guests.{IsNewGuest, out_of}
-use Rattle.repo_hall.specs.Halls.{LeavesOthers, StaysGuest}
 use Rattle.repo_hall.specs.declared.guests.Guest.{Guest}
-use Rattle.repo_hall.specs.declared.halls.Hall.{Hall}
 use Rattle.repo_many.specs.declared.places.Place.{Place}
 use Rattle.repo_many.specs.declared.steps.Progress.{Progress}
 
@@ -24,7 +22,3 @@ GuestIs Of guests place = (g : Guest) → slice_get guests place ≡ Some g → 
 -- a place is free only where it was before, or where its guest is new
 abbrev pub IsFreed : {T : Type 0} → ℕ → List (Place T) → List (Place T) → List Guest → Type 0
 IsFreed place old new guests = slice_get new place ≡ Some Place.Free → (slice_get old place ≡ Some Place.Free) ⊎ ((number : ℕ) × GuestIs (λ g. IsNewGuest g number) guests place)
-
--- at one place is the guest that was there, and at all others they are as they were
-abbrev pub StaysAt : Hall → ℕ → Hall → Type 0
-StaysAt old place new = LeavesOthers old.guests.items place new.guests.items × StaysGuest old.guests.items place new.guests.items

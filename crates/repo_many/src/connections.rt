@@ -2,8 +2,8 @@
 
 ghost use Rattle.std.specs.Prelude.{◌≡◌, ◌≢◌, ◌<◌, length, slice_get, Some};
 ghost use Rattle.repo_hall.specs.Guests.{IsNewGuest};
-ghost use Rattle.repo_hall.specs.Halls.{HallLeads, HallLeavesStore, LeavesOthers};
-ghost use Rattle.repo_many.specs.Endings.{GuestIs, IsDone, IsFreed, IsOver, StaysAt};
+ghost use Rattle.repo_hall.specs.Halls.{HallLeads, HallLeavesStore, LeavesOthers, StaysAt};
+ghost use Rattle.repo_many.specs.Endings.{GuestIs, IsDone, IsFreed, IsOver};
 ghost use Rattle.repo_many.specs.declared.places.Place.{Place};
 ghost use Rattle.repo_many.specs.declared.steps.Progress.{Progress};
 ghost use Rattle.repo_many.specs.declared.times.Served.{Served};

@@ -2,9 +2,9 @@
 
 ghost use Rattle.std.specs.Prelude.{◌≡◌, ◌≢◌, ◌<◌, length, slice_get, Some};
 ghost use Rattle.repo_hall.specs.Guests.{IsAwaited};
-ghost use Rattle.repo_hall.specs.Halls.{HallLeads, HallLeavesStore};
+ghost use Rattle.repo_hall.specs.Halls.{HallLeads, HallLeavesStore, StaysAt};
 ghost use Rattle.repo_hall.specs.declared.guests.Guest.{Guest};
-ghost use Rattle.repo_many.specs.Endings.{GuestIs, IsDone, StaysAt};
+ghost use Rattle.repo_many.specs.Endings.{GuestIs, IsDone};
 ghost use Rattle.repo_many.specs.declared.steps.Progress.{Progress};
 
 use crate::large_frames::{HEAD, Room};

@@ -3,11 +3,10 @@
 ghost use Rattle.std.specs.Prelude.{◌≡◌, ◌≢◌, ◌⊎◌, ◌<◌, [], ℕ, List, length, slice_get, take, Some, Ok, false};
 ghost use Rattle.std.specs.Io.KnownBytes.{Appends, Consumes, IsAtEnd};
 ghost use Rattle.repo_hall.specs.Guests.{AnswerCause, IsAwaited, out_of};
-ghost use Rattle.repo_hall.specs.Halls.{HallLeads, HallLeavesStore, HappensAt, NothingHappens};
+ghost use Rattle.repo_hall.specs.Halls.{HallLeads, HallLeavesStore, HappensAt, NothingHappens, StaysAt};
 ghost use Rattle.repo_hall.specs.Happenings.{Brought, Given};
 ghost use Rattle.repo_hall.specs.declared.guests.Guest.{Guest};
 ghost use Rattle.repo_store.specs.declared.serving.ServeError.{ServeError};
-ghost use Rattle.repo_many.specs.Endings.{StaysAt};
 ghost use Rattle.repo_many.specs.declared.steps.Progress.{Progress};
 
 use repo_hall::Hall;

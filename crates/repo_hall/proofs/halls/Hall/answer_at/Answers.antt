@@ -41,11 +41,11 @@ returns-clause-over g c err h found =
     let guests = c.args.self.now.guests.items in
     ap (λ (x : Guest). x.ended) (get_own guests c.args.place c.answer_next.new.self h found) ∙ c.answer_next.ensures.over err
 
-pub returns-clause-others : goal.returns-clause-others
-returns-clause-others g c = set_others c.args.self.now.guests.items c.args.place c.answer_next.new.self
-
-pub returns-clause-guest : goal.returns-clause-guest
-returns-clause-guest g c =
+pub returns-clause-guests : goal.returns-clause-guests
+returns-clause-guests g c =
     let guests = c.args.self.now.guests.items in
     let old = c.index_mut.result.now in
-    set_number guests c.args.place old c.answer_next.new.self (get_there guests c.args.place old c.requires c.index_mut.ensures.value) c.answer_next.ensures.number
+    let at = get_there guests c.args.place old c.requires c.index_mut.ensures.value in (
+      set_others guests c.args.place c.answer_next.new.self,
+      set_number guests c.args.place old c.answer_next.new.self at c.answer_next.ensures.number,
+    )

@@ -18,11 +18,11 @@ returns-clause-err c = err_then c.feed.result _ _ c.feed.ensures.err (λ err.
     let e = c.feed.ensures in
     hall_same guests c.args.self.now.entered c.args.place old c.feed.new.self at err e.number e.out e.ended)
 
-pub returns-clause-others : goal.returns-clause-others
-returns-clause-others c = set_others c.args.self.now.guests.items c.args.place c.feed.new.self
-
-pub returns-clause-guest : goal.returns-clause-guest
-returns-clause-guest c =
+pub returns-clause-guests : goal.returns-clause-guests
+returns-clause-guests c =
     let guests = c.args.self.now.guests.items in
     let old = c.index_mut.result.now in
-    set_number guests c.args.place old c.feed.new.self (get_there guests c.args.place old c.requires c.index_mut.ensures.value) c.feed.ensures.number
+    let at = get_there guests c.args.place old c.requires c.index_mut.ensures.value in (
+      set_others guests c.args.place c.feed.new.self,
+      set_number guests c.args.place old c.feed.new.self at c.feed.ensures.number,
+    )

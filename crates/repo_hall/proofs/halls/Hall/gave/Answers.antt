@@ -15,11 +15,11 @@ returns-clause-stands c g found =
     let P : Guest → Type 0 = λ x. happens_at (λ k. Given k (take c.args.count (out_of x))) guests c.args.self.now.entered c.args.place (slice_set guests c.args.place c.gave.new.self) c.args.self.now.entered in
     subst P same (hall_gives guests c.args.self.now.entered c.args.place old c.gave.new.self c.args.count at e.reader e.number e.out e.ended)
 
-pub returns-clause-others : goal.returns-clause-others
-returns-clause-others c = set_others c.args.self.now.guests.items c.args.place c.gave.new.self
-
-pub returns-clause-guest : goal.returns-clause-guest
-returns-clause-guest c =
+pub returns-clause-guests : goal.returns-clause-guests
+returns-clause-guests c =
     let guests = c.args.self.now.guests.items in
     let old = c.index_mut.result.now in
-    set_number guests c.args.place old c.gave.new.self (get_there guests c.args.place old c.requires.place c.index_mut.ensures.value) c.gave.ensures.number
+    let at = get_there guests c.args.place old c.requires.place c.index_mut.ensures.value in (
+      set_others guests c.args.place c.gave.new.self,
+      set_number guests c.args.place old c.gave.new.self at c.gave.ensures.number,
+    )
