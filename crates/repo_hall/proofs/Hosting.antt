@@ -1,7 +1,5 @@
 -- What each call of a hall does.
-use Rattle.std.proofs.Common.{◌≡◌, ◌≢◌, ◌⊎◌, ◌≤◌, ◌<◌, ◌+◌, ◌++◌, ◌∷◌, [], ℕ, zero, suc, List, Some, None, Bool, true, false, Result, Ok, Err, IfOk, OnOk, OnErr, length, take, drop, slice_get, slice_set, slice_index_or, refl, sym, ap, subst, arith, inl, inr, ◌∙◌}
-use Rattle.repo_wire.specs.declared.faults.Fault.{Fault}
-use Rattle.repo_wire.specs.declared.faults.WireError.{WireError}
+use Rattle.std.proofs.Common.{◌≡◌, ◌≢◌, ◌⊎◌, ◌<◌, ◌+◌, ◌++◌, ◌∷◌, [], ℕ, zero, suc, List, Some, Bool, true, false, Result, Ok, Err, IfOk, OnOk, OnErr, length, take, drop, slice_get, slice_set, slice_index_or, refl, sym, ap, subst, arith, inl, inr, ◌∙◌}
 use Rattle.repo_wire.specs.declared.messages.Reply.{Reply}
 use Rattle.repo_wire.specs.declared.messages.Request.{Request}
 use Rattle.repo_wire.specs.Messages.{requests}
@@ -15,7 +13,7 @@ use Rattle.repo_store.proofs.RunLemmas.{run_on}
 use Rattle.repo_store.proofs.ServiceLemmas.{causes_on}
 use Rattle.repo_hall.specs.declared.guests.Guest.{Guest}
 use Rattle.repo_hall.specs.Guests.{GuestAnswered, GuestRests, GuestGoes, IsGuest, IsNewGuest, out_of}
-use Rattle.repo_hall.specs.Halls.{Hosted, Housed, Stands, AnswerAdds, LeavesOthers, StaysGuest}
+use Rattle.repo_hall.specs.Halls.{Housed, Stands, AnswerAdds, LeavesOthers, StaysGuest}
 use Rattle.repo_hall.specs.Happenings.{Happening, Brought, Answered, Given, Log, Stay, IsStay, all_asked, all_replies, no_stay, going_on, stay, whose}
 use Rattle.repo_hall.proofs.Staying.{IsDue, empty_stay, guest_stay, new_guest, guest_answers, guest_rests, guest_brought, guest_gave, get_set, housed_set, housed_on, stays_on}
 

@@ -1,5 +1,5 @@
 -- Guests and the clients at the other end.
-use Rattle.std.proofs.Common.{◌≡◌, ◌⊎◌, ◌++◌, ◌∷◌, [], ℕ, List, Option, Some, None, refl, sym, ap, subst, inl, inr, append_assoc, ◌∙◌}
+use Rattle.std.proofs.Common.{◌≡◌, ◌++◌, ◌∷◌, [], ℕ, List, Option, Some, None, refl, sym, ap, subst, inl, inr, append_assoc, ◌∙◌}
 use Rattle.std.proofs.lemmas.List.{append_cancel_left}
 use Rattle.repo_wire.specs.declared.messages.Reply.{Reply}
 use Rattle.repo_wire.specs.declared.messages.Request.{Request}
@@ -14,7 +14,7 @@ use Rattle.repo_session.specs.Talks.{Turn, Talk, IsTurn, Said, sent_in, taken_in
 use Rattle.repo_session.specs.Traces.{Each}
 use Rattle.repo_session.proofs.Joining.{first_frames, each_all, pending_in, asked_frames, each_on, sent_fit, pending_fits}
 use Rattle.repo_hall.specs.Happenings.{Stay, AreRepliesTo, IsStay}
-use Rattle.repo_hall.specs.Joined.{GuestJoined, Party, AtMostPending, TalksAlong, JoinedHallIsARun}
+use Rattle.repo_hall.specs.Joined.{GuestJoined, AtMostPending, TalksAlong, JoinedHallIsARun}
 
 -- what the answers to a guest have left once they made a talk: these requests and replies
 record Made (talk : Talk) (asked : List Request) (given further : List Reply) : Type 0 where

@@ -1,5 +1,5 @@
 -- What one happening more does to a guest and to all of them.
-use Rattle.std.proofs.Common.{rules, ◌≡◌, ◌≢◌, ◌⊎◌, ◌≤◌, ◌<◌, ◌+◌, ◌++◌, ◌∷◌, [], ℕ, zero, suc, List, Option, Some, None, Ok, Err, All, Bool, true, false, cond, eqb, MatchOption, length, take, drop, slice_get, slice_set, refl, sym, ap, subst, arith, inl, inr, append_assoc, ◌∙◌}
+use Rattle.std.proofs.Common.{rules, ◌≡◌, ◌≢◌, ◌⊎◌, ◌<◌, ◌+◌, ◌++◌, ◌∷◌, [], ℕ, zero, suc, List, Option, Some, None, Err, All, true, false, cond, eqb, MatchOption, take, drop, slice_get, slice_set, refl, sym, ap, subst, arith, inl, inr, append_assoc, ◌∙◌}
 use Rattle.std.proofs.lemmas.List.{append-nil, take-append-drop}
 use Rattle.std.proofs.lemmas.Bool.{ne_eqb}
 use Rattle.std.proofs.lemmas.Bool.Decides.{eqb_tells}

@@ -1,12 +1,12 @@
 -- What is armed, through the calls that an answer makes.
-use Rattle.std.proofs.Common.{◌≡◌, ◌≢◌, ◌⊎◌, ◌≤◌, ◌<◌, ◌-◌, ◌∙◌, ◌==◌, inl, inr, ℕ, Bool, true, false, Option, Some, None, Result, Ok, Err, refl, sym, ap, subst, ⊎_elim, arith}
+use Rattle.std.proofs.Common.{◌≡◌, ◌≢◌, ◌≤◌, ◌-◌, ◌∙◌, inl, inr, ℕ, Bool, true, false, Option, Some, None, Result, Ok, Err, refl, sym, ap, subst, arith}
 use Rattle.repo_wire.specs.declared.messages.Ask.{Ask}
 use Rattle.repo_wire.specs.declared.messages.Code.{Code}
 use Rattle.repo_wire.specs.declared.messages.Say.{Say}
 use Rattle.repo_store.specs.declared.faults.Armed.{Armed}
 use Rattle.repo_store.specs.declared.faults.Fail.{Fail}
 use Rattle.repo_store.specs.declared.shelves.ShelfError.{ShelfError}
-use Rattle.repo_store.specs.Failing.{HasFailed, Plainly, IsWritten, FailsItself, IsAlwaysRead, Failing, IsLeft, IsAsArmed}
+use Rattle.repo_store.specs.Failing.{HasFailed, IsWritten, FailsItself, IsAlwaysRead, Failing, IsLeft, IsAsArmed}
 use Rattle.repo_store.specs.Faults.{fails_reading, fails_writing, ReadsAsArmed, one_less, StillWaits, MayReadAsArmed, WritesAsArmed, told_after, ArmIsSpent, IsPassed}
 use Rattle.repo_store.specs.Laws.{Writes, HasCause}
 use Rattle.repo_store.specs.StoreMachine.{Answers, Step, Looks, refusal}

@@ -6,10 +6,10 @@ use Rattle.repo_name.specs.declared.names.Name.{Name}
 use Rattle.repo_locks.specs.TokenMachine.{Tokens}
 use Rattle.repo_store.specs.declared.known.Known.{Known}
 use Rattle.repo_name.specs.NameMaps.{found}
-use Rattle.repo_store.specs.Kept.{NameSet, Names, names_of, AreThere, IsLedgerOf, Agrees, nothing, Changes, WasNew, KeepsOthers, StaysKnown}
+use Rattle.repo_store.specs.Kept.{NameSet, Names, names_of, AreThere, IsLedgerOf, Agrees, nothing, Changes, WasNew, KeepsOthers}
 use Rattle.repo_store.specs.declared.shelves.ShelfError.{ShelfError}
 use Rattle.repo_store.specs.Laws.{Writes}
-use Rattle.repo_store.specs.Stores.{Store, Added, Removed, PutsObject, RemovesObject, SavesTokens}
+use Rattle.repo_store.specs.Stores.{Store, PutsObject, RemovesObject}
 
 abbrev There : Type 0
 There = Name → Option (List ℕ)

@@ -23,7 +23,7 @@ use Rattle.repo_world.specs.Events.{Arrives, Crashes, Feeds, Gives, RefusesItem,
 use Rattle.repo_world.specs.Flows.{EachIsThere, Flow, FlowStands, IsThere, messages_in, seat_at, spoken, world_of}
 use Rattle.repo_world.specs.inner.Flowing.{TellsTaken}
 use Rattle.repo_world.specs.inner.Seating.{Answered, Crashed, StepsAsArmed, TookItem, TookReply}
-use Rattle.repo_world.specs.Rules.{IsRuled, rule_of}
+use Rattle.repo_world.specs.Rules.{IsRuled}
 use Rattle.repo_world.specs.Seats.{Seated, empty_seat, listed, nothing, silence}
 use Rattle.repo_world.specs.World as world
 use Rattle.repo_world.specs.World.{versions_of, World, client_at, crashed_one, first_of, instance_of, sends, started}

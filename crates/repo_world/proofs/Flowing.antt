@@ -10,7 +10,7 @@ use Rattle.repo_wire.specs.declared.messages.Request.{Request}
 use Rattle.repo_world.specs.Flows.{EachIsThere, FlowStands, IsThere, seat_at, spoken}
 use Rattle.repo_world.specs.Seats.{Seated, empty_seat, nothing, silence}
 use Rattle.repo_world.specs.World as world
-use Rattle.repo_world.specs.World.{World, client_at, nobody, sends}
+use Rattle.repo_world.specs.World.{client_at}
 use Rattle.repo_world.specs.declared.messages.Message.{Message}
 use Rattle.repo_world.proofs.Seating.{each_end}
 

@@ -14,7 +14,7 @@ use Rattle.repo_tree.specs.declared.snapshots.Snapshot.{Snapshot}
 use Rattle.repo_tree.proofs.SpellingLemmas.{spells_move}
 use Rattle.repo_store.specs.Pages.{Has}
 use Rattle.repo_session.specs.Askers.{Asker}
-use Rattle.repo_session.specs.Clients.{IsNextRequest, IsObedientWith, IsObedientBy}
+use Rattle.repo_session.specs.Clients.{IsNextRequest, IsObedientBy}
 use Rattle.repo_session.specs.Ends as ends
 use Rattle.repo_session.specs.Ends.{before_unlock, without_unlock}
 use Rattle.repo_session.specs.Listings.{IsReadRow}

@@ -21,7 +21,7 @@ use Rattle.repo_wire.specs.Messages.{page_limit}
 use Rattle.repo_locks.specs.declared.outcomes.TicketError.{TicketError}
 use Rattle.repo_locks.specs.TokenMachine.{Tokens, TicketStep, LockStep, live_as, is_fresh}
 use Rattle.repo_store.specs.Pages.{IsPage}
-use Rattle.repo_store.specs.StoreMachine.{Step, Answers, PutAnswer, DeleteAnswer, UpgradeAnswer, GetSays, TicketSays, TicketAnswer, LockAnswer, LockSays, RangeAnswer, SliceSays, object_limit}
+use Rattle.repo_store.specs.StoreMachine.{Step, Answers, PutAnswer, DeleteAnswer, UpgradeAnswer, GetSays, TicketSays, LockSays, SliceSays, object_limit}
 use Rattle.repo_store.specs.Stores.{Store}
 use Rattle.repo_store.specs.Upgrades.{RaiseAnswer}
 use Rattle.repo_session.proofs.Growing.{answered, no_done}

@@ -7,7 +7,7 @@ use Rattle.repo_name.specs.declared.kinds.Kind.{Kind}
 use Rattle.repo_name.specs.declared.names.Name.{Name}
 use Rattle.repo_tree.specs.declared.entries.Entry.{Entry}
 use Rattle.repo_session.specs.Versions.{upto}
-use Rattle.repo_session.specs.Clients.{IsObedientWith, IsObedientBy}
+use Rattle.repo_session.specs.Clients.{IsObedientBy}
 use Rattle.repo_session.specs.Order.{May, Task}
 use Rattle.repo_session.specs.Traces.{Trace, is_complete}
 use Rattle.repo_session.specs.declared.outcomes.End.{End}

@@ -1,4 +1,4 @@
-use Rattle.std.proofs.Common.{◌≡◌, sym, subst}
+use Rattle.std.proofs.Common.{sym, subst}
 use Rattle.repo_wire.specs.declared.messages.Ask.{Ask}
 use Rattle.repo_store.specs.StoreMachine.{Step}
 use Rattle.repo_store.proofs.answers.say_to.Goals as goal
@@ -17,3 +17,13 @@ pub returns-in-Upgrade-clause-step : goal.returns-in-Upgrade-clause-step
 returns-in-Upgrade-clause-step g c h =
     let P : Ask → Type 0 = λ ask. Step (g.S.Shelf.store c.args.shelf.now) ask c.answer_upgrade.result (g.S.Shelf.store c.answer_upgrade.new.shelf) in
     subst P (sym c.in-Upgrade.is) (c.answer_upgrade.ensures.step h)
+
+pub returns-in-Ticket-clause-step : goal.returns-in-Ticket-clause-step
+returns-in-Ticket-clause-step g c h =
+    let P : Ask → Type 0 = λ ask. Step (g.S.Shelf.store c.args.shelf.now) ask c.answer_ticket.result (g.S.Shelf.store c.answer_ticket.new.shelf) in
+    subst P (sym c.in-Ticket.is) (c.answer_ticket.ensures.step h)
+
+pub returns-in-Lock-clause-step : goal.returns-in-Lock-clause-step
+returns-in-Lock-clause-step g c h =
+    let P : Ask → Type 0 = λ ask. Step (g.S.Shelf.store c.args.shelf.now) ask c.answer_lock.result (g.S.Shelf.store c.answer_lock.new.shelf) in
+    subst P (sym c.in-Lock.is) (c.answer_lock.ensures.step h)

@@ -1,4 +1,4 @@
-use Rattle.std.proofs.Common.{◌≡◌, ◌∙◌, ap, sym, Some, Option, Result, Ok, Err, Bool, option_map, is_some}
+use Rattle.std.proofs.Common.{◌≡◌, ◌∙◌, ap, sym, Some, Option, Result, Ok, Err, option_map, is_some}
 use Rattle.std.specs.Prelude.{OnErr}
 use Rattle.repo_name.specs.declared.names.Name.{Name}
 use Rattle.repo_store.specs.Kept.{is_in}

@@ -1,7 +1,4 @@
-use Rattle.std.proofs.Common.{◌≢◌, ⊎_elim, inl, inr, refl, sym, subst}
-use Rattle.repo_wire.specs.declared.messages.Code.{Code}
-use Rattle.repo_store.specs.Upgrades.{IsDue}
-use Rattle.repo_store.specs.declared.upgrades.Due.{Due}
+use Rattle.std.proofs.Common.{⊎_elim, inl, inr}
 use Rattle.repo_store.proofs.upgrades.work_due.Goals as goal
 
 pub returns-in-Err : goal.returns-in-Err

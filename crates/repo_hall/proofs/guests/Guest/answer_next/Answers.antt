@@ -1,4 +1,4 @@
-use Rattle.std.proofs.Common.{rules, ◌≡◌, [], false, length, Ok, Err, Some, Result, Option, inr, subst, ap, sym, refl, ◌∙◌}
+use Rattle.std.proofs.Common.{rules, ◌≡◌, [], false, length, Ok, Some, Result, Option, inr, subst, ap, sym, refl, ◌∙◌}
 use Rattle.std.proofs.lemmas.List.{nil_from_length}
 use Rattle.repo_wire.specs.declared.faults.WireError.{WireError}
 use Rattle.repo_wire.specs.declared.messages.Request.{Request}

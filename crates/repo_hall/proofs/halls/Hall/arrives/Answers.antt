@@ -1,4 +1,3 @@
-use Rattle.std.proofs.Common.{◌≡◌, Result, Ok, Err, OnOk, OnErr}
 use Rattle.repo_hall.proofs.Hosting.{ok_then, err_then, get_there, hall_brings, hall_same, set_number, set_others}
 use Rattle.repo_hall.proofs.halls.Hall.arrives.Goals as goal
 

@@ -1,7 +1,7 @@
 use Rattle.std.proofs.Common.{subst}
 use Rattle.repo_session.specs.Traces.{Each}
 use Rattle.repo_world.specs.Flows.{Flow, clients_in}
-use Rattle.repo_world.specs.Rules.{IsRuled, rule_of}
+use Rattle.repo_world.specs.Rules.{IsRuled}
 use Rattle.repo_world.proofs.FlowParts.{clients_ruled}
 use Rattle.repo_world.proofs.traffic.Traffic.clients.Goals as goal
 

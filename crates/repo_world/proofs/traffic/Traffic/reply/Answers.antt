@@ -1,4 +1,4 @@
-use Rattle.std.proofs.Common.{◌≡◌, ◌∙◌, None, Some, slice_get, sym, ap, subst}
+use Rattle.std.proofs.Common.{◌∙◌, slice_get, sym, ap}
 use Rattle.repo_world.specs.Seats.{Seated}
 use Rattle.repo_world.proofs.Flowing.{said_named}
 use Rattle.repo_world.proofs.Standing.{no_seat, seat_is}

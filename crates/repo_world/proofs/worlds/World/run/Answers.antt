@@ -6,7 +6,7 @@ use Rattle.repo_store.specs.Failing.{HasFailed}
 use Rattle.repo_world.specs.Calmness.{IsCalm, IsLight}
 use Rattle.repo_world.specs.Events.{Happens, Run}
 use Rattle.repo_world.specs.Flows.{world_of}
-use Rattle.repo_world.specs.Rules.{AllAreRuled, rule_of}
+use Rattle.repo_world.specs.Rules.{AllAreRuled}
 use Rattle.repo_world.specs.Stages.{IsSafely, Leads, Stage, seen}
 use Rattle.repo_world.specs.World.{World}
 use Rattle.repo_world.specs.declared.events.Event.{Event}

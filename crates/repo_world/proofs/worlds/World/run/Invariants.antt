@@ -1,7 +1,7 @@
 -- The first events, so many, happened.
 use Rattle.std.proofs.Common.{take}
 use Rattle.repo_world.specs.Events.{Run}
-use Rattle.repo_world.specs.Rules.{AllAreRuled, rule_of}
+use Rattle.repo_world.specs.Rules.{AllAreRuled}
 use Rattle.repo_world.specs.Stages.{IsSafely, LeadsOn, seen}
 use Rattle.repo_world.proofs.worlds.World.run.Given as goal
 
