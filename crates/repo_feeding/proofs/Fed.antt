@@ -139,6 +139,7 @@ module _ (who : Asker) (whole : Option (List Fed)) where
     same : unfed fs ≡ es
     welcome : AreWelcome fs
     late : IsFedLate fs
+    so_far : NobodyGaveUp (fed_in fs) → IsOnTheWay whole (place_of (fed_in fs))
     told : IsAsTold whole (place_of (fed_in fs))
     obeys : Obeys (piece_task who) PieceAllows (λ before e. ⊥) fs
 
@@ -149,7 +150,7 @@ module _ (who : Asker) (whole : Option (List Fed)) where
     permitted : IsPermitted PieceAllows found.fs ask
 
   abbrev of_so : (es fs : Trace) → IsFedSo who whole es fs → Found es
-  of_so es fs so = record { fs = fs; same = so.same; welcome = so.welcome; late = so.late; told = so.told; obeys = so.obeys }
+  of_so es fs so = record { fs = fs; same = so.same; welcome = so.welcome; late = so.late; so_far = so.so_far; told = so.told; obeys = so.obeys }
 
   -- this may be asked for, at these exchanges with items
   abbrev AskedAtFs : Trace → Ask → Type 0
@@ -198,12 +199,13 @@ module _ (who : Asker) (whole : Option (List Fed)) where
         same = λ i. is i ∷ a.found.same i;
         welcome = (tt, a.found.welcome);
         late = (λ some. absurd (some refl), a.found.late);
+        so_far = a.found.so_far;
         told = a.found.told;
         obeys = (a.may, a.permitted, quiet, a.found.obeys);
       }
 
   found_at : (es : Trace) → unfed es ≡ es → Obeys (piece_task who) (FedAllows who whole) (λ before e. ⊥) es → Found es
-  found_at [] same h = record { fs = []; same = refl; welcome = tt; late = tt; told = told_first whole; obeys = h }
+  found_at [] same h = record { fs = []; same = refl; welcome = tt; late = tt; so_far = λ kept. way_first whole; told = told_first whole; obeys = h }
   found_at (e ∷ es) same h =
       let rest : unfed es ≡ es = cc in
       on_from e es same h.2 (asked es (found_at es rest h.3) e.ask h.0 h.1)
@@ -238,6 +240,7 @@ module _ (who : Asker) (whole : Option (List Fed)) where
     fs = f.fs;
     same = f.same;
     welcome = f.welcome;
+    so_far = f.so_far;
     told = f.told;
     fed = record {
       obeys = f.obeys;

@@ -106,15 +106,11 @@ within_on whole p rest n coming more (q, part, at, may, is) =
     let all = grown q.file part (take n rest) (subst (λ r. MayTake r (fed_bytes (take n rest))) (sym is) more) in
     (q, part ++ take n rest, subst (λ bytes. IsAt whole q (fed_bytes bytes ∷ coming)) (sym same) at, inl all, sym (bytes_joined q part (take n rest)) ∙ ap (λ r. after r (fed_bytes (take n rest))) is)
 
-within_leads : (whole : List Fed) (p : Place) (rest : List ℕ) (coming : List Fed) → IsWithin whole p rest coming → leads (after p (fed_bytes rest)) coming ≡ leads at_root whole
-within_leads whole p rest coming (q, part, at, may, is) =
-    ap (λ r. leads (after r (fed_bytes rest)) coming) (sym is) ∙ ap (λ r. leads r coming) (bytes_joined q part rest) ∙ at_leads whole q (fed_bytes (part ++ rest) ∷ coming) at
-
 -- what came, but for what waits, is on the way
 pub on_the_way : (told : Option Told) (p : Place) (rest : List ℕ) → HasCome told p rest → IsOnTheWay (whole_of told) p
 on_the_way None p rest h = tt
-on_the_way (Some told) p rest (inl (none, at)) = (told.coming, at_leads told.whole p told.coming at)
-on_the_way (Some told) p rest (inr within) = (fed_bytes rest ∷ told.coming, within_leads told.whole p rest told.coming within)
+on_the_way (Some told) p rest (inl (none, at)) = (told.coming, inl at)
+on_the_way (Some told) p rest (inr within) = (told.coming, inr (rest, within))
 
 -- nothing waits here
 abbrev pub IsClear : Option Told → Place → Type 0

@@ -16,9 +16,9 @@ use Rattle.repo_session.specs.Traces.{Trace, IsGiven, fed_in}
 use Rattle.repo_session.specs.declared.outcomes.Outcome.{Outcome}
 use Rattle.repo_writing.specs.Putting.{PutDone, IsIndexed}
 use Rattle.repo_backup.specs.Handed.{AreHanded}
-use Rattle.repo_backup.specs.Items.{place_of}
+use Rattle.repo_backup.specs.Items.{NobodyGaveUp, place_of}
 use Rattle.repo_backup.specs.Laws.{IsFedBackup}
-use Rattle.repo_feeding.specs.FedRules.{AreWelcome, IsAsTold, fed_rule}
+use Rattle.repo_feeding.specs.FedRules.{AreWelcome, IsAsTold, IsOnTheWay, fed_rule}
 use Rattle.repo_feeding.specs.Unfed.{unfed}
 use Rattle.repo_feeding.specs.Sources.{spelled_in}
 
@@ -46,12 +46,13 @@ pub record IsSpelledSnapshot (whole : Option (List Fed)) (es : Trace) (name : Na
 abbrev pub IsFedClient : Asker → Option (List Fed) → Option Request → Option Outcome → Trace → Type 0
 IsFedClient who whole next outcome es = IsObedientBy (fed_rule who whole) who next outcome es
 
--- a backup that is fed stands at these exchanges by its rule, with some items between them, each of which was welcome; and where its source is known they spell
--- what the source was made to give, once they ended
+-- a backup that is fed stands at these exchanges by its rule, with some items between them, each of which was welcome; and where its source is known they are on
+-- the way to what it was made to give, unless somebody gave up, and spell that, once they ended
 pub record StandsAsFed (who : Asker) (whole : Option (List Fed)) (next : Option Request) (outcome : Option Outcome) (es : Trace) : Type 0 where
   pub fs : Trace
   pub same : unfed fs ≡ es
   pub welcome : AreWelcome fs
+  pub so_far : NobodyGaveUp (fed_in fs) → IsOnTheWay whole (place_of (fed_in fs))
   pub told : IsAsTold whole (place_of (fed_in fs))
   pub fed : IsFedBackup who next outcome fs
 

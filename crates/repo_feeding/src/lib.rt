@@ -11,7 +11,7 @@
 //!
 //! Promised: what it asks for, and how it ends, is what a backup may that was fed some items in their places between its
 //! exchanges, and no snapshot is put but of items that ended. Where the source fails, or an item isn't taken, the backup is
-//! given up, and for no other reason but that it was fed without end; the reason is the true one, and is kept, but where it came
+//! given up, and for no other reason but that it was fed without end; there is a reason then, and a true one, but where it came
 //! ahead of a reply by which the backup ends. While it goes on, and where its snapshot is stored, a source that failed wasn't asked
 //! again. Where it is known what a source was made to give, the items so far are on the way to that,
 //! the one that isn't taken is the next of it, without end is at least 2^64 - 1 items and bytes, and a snapshot spells just

@@ -9,7 +9,7 @@ pub enum GivenUp<E: Drop> {
     Source(E),
     /// The item that came next wasn't taken, for this reason.
     Refused(FeedError),
-    /// It was fed 2^64 - 1 times on one reply, and wanted more.
+    /// It was fed without end: of a source of which that is known, 2^64 - 1 items and bytes at least.
     Endless,
 }
 

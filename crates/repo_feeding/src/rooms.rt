@@ -22,13 +22,13 @@ pub struct Room {
 }
 
 impl Model for Room {
-    ghost use Rattle.std.specs.Prelude.{ℕ, ◌≤◌, List, drop, take, length};
+    ghost use Rattle.std.specs.Prelude.{ℕ, ◌≡◌, ◌≤◌, List, drop, take, length};
 
     ghost Value = { List ℕ };
 
     ghost view = { λ r. drop r.fed (take r.read r.bytes.items) };
 
-    ghost invariant = { λ r. (r.fed ≤ r.read) × (r.read ≤ length r.bytes.items) };
+    ghost invariant = { λ r. (r.fed ≤ r.read) × (r.read ≤ length r.bytes.items) × (length r.bytes.items ≡ 65536) };
 }
 
 impl Room {

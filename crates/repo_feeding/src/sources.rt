@@ -1,6 +1,6 @@
 //! Where the items of a backup come from.
 
-ghost use Rattle.std.specs.Prelude.{IfOk, Option, length};
+ghost use Rattle.std.specs.Prelude.{◌≤◌, IfOk, Option, length};
 ghost use Rattle.repo_feeding.specs.Sources.{Told, FitsRoom, Comes, Fails, came};
 
 /// What comes next from a source.
@@ -30,9 +30,10 @@ pub trait Source {
     /// It failed, for this reason.
     ghost failed: { Self → Self.Error → Type 0 };
 
-    /// The next one. Bytes of the open file are read to the front of the room, at most as many as it has. After an
-    /// error, and behind the end, it isn't asked again.
+    /// The next one. Bytes of the open file are read to the front of the room, at most as many as it has, which is one at
+    /// least. After an error, and behind the end, it isn't asked again.
     fn next(&mut self, room: &mut [u8]) -> Result<Found, Self::Error>
+        requires { 1 ≤ length room.old }
         ensures room { IfOk result (FitsRoom (length room.new)) }
         ensures comes { Comes (told self.old) (came room.new result) (told self.new) }
         ensures fails { Fails (failed self.old) result (failed self.new) };

@@ -19,9 +19,10 @@ pub fn has_config<R: Files + AllocGlobal + Clone + Drop>(rt: &R, root: &str) -> 
 }
 
 /// The shelf in the folder of this path, which is made where it isn't there, with all that it
-/// holds: its folders and, where none is there, a fresh ledger. A folder that is made is its owner's alone. All of it is on the disk then, its
-/// name in the folder above too. Where it was cut off before, it is made whole. What else is in the folder
-/// stays as it is. The shelf holds the folder until it is dropped: no other one is opened there meanwhile.
+/// holds: its folders and, where none is there, a fresh ledger. A folder that is made is its owner's alone. All of it is on the
+/// disk then, its name in the folder above too, which is shown by tests and no clause. Where it was cut off before, it is made
+/// whole. What else is in the folder stays as it is. The shelf holds the folder until it is dropped: no other one is opened
+/// there meanwhile.
 ///
 /// Nothing is made where there is a config, or something of somebody else's at a name that is a store's
 /// own: then the error is of the kind `AlreadyExists`. Where another shelf holds the folder, it is of the

@@ -185,15 +185,13 @@ impl<'a, R: Files + AllocGlobal + Clone + Drop> FolderWalk<'a, R> {
 
     /// What comes next: more of the open file, else an entry.
     fn find(&mut self, room: &mut [u8]) -> Result<Found, WalkError>
+        requires { 1 ≤ length room.old }
         ensures fits { IfOk result (FitsRoom (length room.new)) }
         ensures failed { self.new.failed ≡ self.old.failed }
     {
         let Some(opened) = &mut self.file else {
             return self.next_entry();
         };
-        if room.is_empty() {
-            return Ok(Found::Bytes(0));
-        }
         match opened.read_on(room) {
             Ok(0) if opened.read < opened.length => {
                 Err(unreadable(self.rt.alloc(), opened.place.as_str()))
