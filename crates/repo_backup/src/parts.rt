@@ -56,8 +56,8 @@ pub struct Part<'a> {
 
 /// The text of a part; `None` where it is above 8,388,608 bytes. It fails for memory alone.
 fn text_of(alloc: Global, part: Part) -> Result<Option<Vec<u8>>, AllocError>
-    ensures { IfOk result (λ made. MatchOption made (blob_limit < length (part_text part.entry.nodes part.entry.next))
-        (λ text. (text.items ≡ part_text part.entry.nodes part.entry.next) × IsPartText text.items part.entry.nodes part.entry.next × (1 ≤ length text.items))) }
+    ensures { IfOk result (λ made. MatchOption made (blob_limit < length (part_text part.entry.nodes.now part.entry.next))
+        (λ text. (text.items ≡ part_text part.entry.nodes.now part.entry.next) × IsPartText text.items part.entry.nodes.now part.entry.next × (1 ≤ length text.items))) }
 {
     match write_part(alloc, part.nodes, part.next.as_ref()) {
         Ok(text) => Ok(Some(text)),
@@ -77,7 +77,7 @@ pub fn pack_part(
 ) -> Result<Option<Packed>, AllocError>
     requires open { IsOpen packing.old.packer.writer }
     requires unsealed { packing.old.packer.sealed ≡ None }
-    ensures ok { IfOk result (λ packed. PacksPart lookup.now sealing part.entry.nodes part.entry.next packing.old packed packing.new) }
+    ensures ok { IfOk result (λ packed. PacksPart lookup.now sealing part.entry.nodes.now part.entry.next packing.old packed packing.new) }
     ensures left { IfOk result (λ packed. LeavesPart sealing packing.old packed packing.new) }
     ensures aims { AimsOn packing.old packing.new }
     ensures err { OnErr result (StaysPacked lookup.now packing.old packing.new) }
