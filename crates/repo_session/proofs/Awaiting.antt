@@ -1,5 +1,5 @@
 -- What was asked and heard over a channel, after one step more.
-use Rattle.std.proofs.Common.{◌≡◌, ◌≢◌, ◌≤◌, ◌+◌, ◌^◌, ◌++◌, ◌∷◌, [], ℕ, List, Option, Some, None, Result, Ok, Err, length, take, refl, sym, ap, subst, arith, inl, append_assoc, ◌∙◌}
+use Rattle.std.proofs.Common.{◌≡◌, ◌≢◌, ◌≤◌, ◌<◌, ◌+◌, ◌^◌, ◌++◌, ◌∷◌, [], ℕ, List, Option, Some, None, Result, Ok, Err, length, take, refl, sym, ap, subst, arith, inl, append_assoc, ◌∙◌}
 use Rattle.std.specs.Io.KnownBytes.{Appends}
 use Rattle.std.proofs.lemmas.List.{append-nil}
 use Rattle.repo_name.specs.declared.names.Instance.{Instance}
@@ -14,10 +14,10 @@ use Rattle.repo_store.proofs.ChannelLemmas.{said_join, heard_join, passes_join}
 use Rattle.repo_session.specs.declared.connections.Connection.{Connection}
 use Rattle.repo_session.specs.declared.driving.DriveError.{DriveError}
 use Rattle.repo_session.specs.declared.emissions.Emission.{Emission}
-use Rattle.repo_session.specs.Connections.{Heard, BeginsWithReplies, AreReadPast, Hears, Asks}
+use Rattle.repo_session.specs.Connections.{Heard, BeginsWithReplies, IsWaiting, AreReadPast, Hears, Asks}
 use Rattle.repo_session.specs.Talks.{Talk, IsTurn, Said, Went, DrivesAfter, first_carried, sent_in, read_in, frames_of}
 use Rattle.repo_session.specs.Traces.{Each, Trace}
-use Rattle.repo_session.specs.Turns.{IsWaiting, IsUnanswered, AreHeardWhile, HearsBy, SendsOver, IsAskedFirst, AsksOver, IsAwaiting, AreAskedInTurn, asked_in, DrivesOver}
+use Rattle.repo_session.specs.Turns.{IsUnanswered, AreHeardWhile, HearsBy, SendsOver, IsAskedFirst, AsksOver, IsAwaiting, AreAskedInTurn, asked_in, DrivesOver}
 use Rattle.repo_session.proofs.Connecting.{asked, begins, begins_more, head_cut, rest_cut, told_none, unsent}
 use Rattle.repo_session.proofs.Talking.{first_of_more, frames_on, heard_all, part_next, passed_none, unanswered, went_nowhere, went_same, whole_next, whole_part, written_by, written_on}
 
@@ -155,8 +155,8 @@ pub asks_written : (request : Request) (result : Result Reply DriveError) (bytes
     → Asks request result bytes told passed new (Some []) (Some all) → Asks request result bytes told passed new start written
 asks_written request (Ok reply) bytes told passed new start written all a h = (h.0, subst (λ x. Appends start written x) h.1 a)
 asks_written request (Err DriveError.Write) bytes told passed new start written all a h = (h.0, h.1, (h.2.0, subst (λ x. Appends start written x) h.2.1 a))
-asks_written request (Err DriveError.Read) bytes told passed new start written all a h = (h.0, (h.1.0, subst (λ x. Appends start written x) h.1.1 a))
-asks_written request (Err DriveError.Malformed) bytes told passed new start written all a h = (h.0, (h.1.0, subst (λ x. Appends start written x) h.1.1 a))
+asks_written request (Err DriveError.Read) bytes told passed new start written all a h = (h.0, subst (λ x. Appends start written x) h.1 a)
+asks_written request (Err DriveError.Malformed) bytes told passed new start written all a h = (h.0, subst (λ x. Appends start written x) h.1 a)
 asks_written request (Err DriveError.Limit) bytes told passed new start written all a h = (h.0, (h.1.0, subst (λ x. Appends start written x) h.1.1 a))
 asks_written request (Err DriveError.Memory) bytes told passed new start written all a h = (h.0, (h.1.0, subst (λ x. Appends start written x) h.1.1 a))
 asks_written request (Err DriveError.Sink) bytes told passed new start written all a h = absurd h
@@ -165,7 +165,7 @@ pub drives_written : {C : Type 0} (before : List ℕ) (told : List Reply) (insta
     (start written : Option (List ℕ)) (all : List ℕ) → Appends start written all
     → DrivesAfter before told instance Fits next old result new what (Some []) (Some all) → DrivesAfter before told instance Fits next old result new what start written
 drives_written before told instance Fits next old (Ok n) new what start written all a h = (h.0, h.1, h.2, h.3, h.4, subst (λ x. Appends start written x) h.5 a, h.6)
-drives_written before told instance Fits next old (Err error) new what start written all a h = (h.0, h.1, written_by error (sent_in what.talk) (next new) start written all a h.2, h.3)
+drives_written before told instance Fits next old (Err error) new what start written all a h = (h.0, h.1, written_by error (sent_in what.talk) (next new) start written all a h.2, h.3, h.4)
 
 -- ---- one request more
 
@@ -297,9 +297,9 @@ module _ {L C : Type 0} (Hearing Saying : L → List ℕ → L → Type 0) (befo
     )
 
     -- too many requests were sent
-    pub gone_far : 2 ^ 32 ≤ count → (Also : Talk → Type 0) → Also i.talk
+    pub gone_far : count ≡ 2 ^ 32 → next new ≢ None → (Also : Talk → Type 0) → Also i.talk
         → (driven : DrivesOver Hearing Saying before told instance Fits next old from (Err DriveError.Limit) new connection to) × Also driven.said.talk
-    gone_far many Also also = (
+    gone_far many some Also also = (
       record {
         passages = i.passages;
         passes = i.passes;
@@ -308,9 +308,10 @@ module _ {L C : Type 0} (Hearing Saying : L → List ℕ → L → Type 0) (befo
         in_turn = unsaid;
         drives = (
           i.went,
-          (heard_all before (heard_in i.passages) told i.talk begun, passed_none (next new), inl (omega (arith, i.counted, many))),
+          (heard_all before (heard_in i.passages) told i.talk begun, passed_none (next new), inl (omega (arith, i.counted, many), some)),
           whole_part (Some []) (Some (said_in i.passages)) (sent_in i.talk) (next new) i.whole,
           i.first,
+          omega (arith, i.counted, many),
         );
         rests = tt;
       },
@@ -318,7 +319,7 @@ module _ {L C : Type 0} (Hearing Saying : L → List ℕ → L → Type 0) (befo
     )
 
     module _ (request : Request) (pending : next new ≡ Some request) (result : Result Reply DriveError) (connection2 : Connection) (end : L)
-        (n : AsksOver Hearing Saying (before ++ heard_in i.passages) (told ++ read_in i.talk) request to result connection2 end) where
+        (n : AsksOver Hearing Saying (before ++ heard_in i.passages) (told ++ read_in i.talk) request to result connection2 end) (few : count < 2 ^ 32) where
       abbrev all : List Passage
       all = n.passages ++ i.passages
 
@@ -343,7 +344,7 @@ module _ {L C : Type 0} (Hearing Saying : L → List ℕ → L → Type 0) (befo
               said = record { bytes = heard_in all; talk = i.talk; more = n.passed };
               bytes = refl;
               in_turn = subst (λ o. AreAskedInTurn before told (asked_in i.talk o) all) (sym pending) turn_all;
-              drives = (i.went, r.0, r.1, i.first);
+              drives = (i.went, r.0, r.1, i.first, omega (arith, i.counted, few));
               rests = tt;
             },
             also (λ sink. subst (λ e. Asks request (Err e) (before ++ heard_in all) (told ++ read_in i.talk) n.passed connection2 (Some (said_in i.passages)) (Some (said_in all))) sink asks),
@@ -376,6 +377,7 @@ module _ {L C : Type 0} (Hearing Saying : L → List ℕ → L → Type 0) (befo
                   begins (before ++ heard_in all) (told ++ (read_in i.talk ++ more)) connection2 reads_all,
                   part_next (Some []) (Some (said_in all)) (sent_in i.talk) request (next later) still (whole_next (Some []) (Some (said_in all)) (sent_in i.talk) request said_all),
                   ap (first_carried (sent_in i.talk)) same ∙ i.first,
+                  omega (arith, i.counted, few),
                 );
                 rests = tt;
               },
@@ -418,6 +420,7 @@ module _ {L C : Type 0} (Hearing Saying : L → List ℕ → L → Type 0) (befo
                   (heard_all before (heard_in all) told talk (begins (before ++ heard_in all) (told ++ read_in talk) connection2 reads_all), refl, gave),
                   said_all,
                   first_of_more (sent_in i.talk) request (next old) (next new) (next later) pending i.first,
+                  omega (arith, i.counted, few),
                 );
                 rests = tt;
               },

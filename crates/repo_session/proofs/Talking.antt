@@ -22,8 +22,8 @@ use Rattle.repo_session.specs.declared.emissions.Emission.{Emission}
 use Rattle.repo_session.specs.declared.outcomes.Outcome.{Outcome}
 use Rattle.repo_session.specs.Clients.{IsReplyTo, IsObedientWith, exchange}
 use Rattle.repo_session.specs.Order.{Task}
-use Rattle.repo_session.specs.Connections.{BeginsWithReplies, Asks}
-use Rattle.repo_session.specs.Talks.{Turn, Talk, IsTurn, first_carried, trace_of, sent_in, taken_in, read_in, frames_of, Went, Said, IsHeardAfter, WritesPart, WritesBy, ArePassed, DriveCauseAfter, TalkRan, MayBeAhead, AskGives}
+use Rattle.repo_session.specs.Connections.{BeginsWithReplies, IsWaiting, Asks}
+use Rattle.repo_session.specs.Talks.{Turn, Talk, IsTurn, first_carried, trace_of, sent_in, taken_in, read_in, frames_of, pending_frame, Went, Said, IsHeardAfter, WritesPart, WritesBy, ArePassed, DriveCauseAfter, TalkRan, MayBeAhead, AskGives}
 use Rattle.repo_session.specs.Traces.{Each, Exchange, Trace}
 use Rattle.repo_session.proofs.Connecting.{begins}
 
@@ -55,20 +55,15 @@ whole_next a b sent request p =
     let same : frames_of (sent ++ request ∷ []) ≡ frames_of sent ++ take (length body) body = frames_on sent request ∙ ap (λ x. frames_of sent ++ x) (sym (take-length body)) in
     (length body, subst (λ x. Appends a b x) same p)
 
--- by an error but the sink's
-part_by : (error : DriveError) (a c : Option (List ℕ)) (sent : List Request) (next : Option Request) → error ≢ DriveError.Sink → WritesPart a sent next c → WritesBy error a sent next c
-part_by DriveError.Read a c sent next other p = p
-part_by DriveError.Write a c sent next other p = p
-part_by DriveError.Malformed a c sent next other p = p
-part_by DriveError.Limit a c sent next other p = p
-part_by DriveError.Memory a c sent next other p = p
-part_by DriveError.Sink a c sent next other p = absurd (other refl)
+-- all of what is pending is a part of it
+all_part : (a c : Option (List ℕ)) (sent : List Request) (next : Option Request) → Appends a c (frames_of sent ++ pending_frame next) → WritesPart a sent next c
+all_part a c sent next w = (length (pending_frame next), subst (λ x. Appends a c (frames_of sent ++ x)) (sym (take-length (pending_frame next))) w)
 
 -- by whatever error, it is some first part
 pub by_part : (error : DriveError) (a c : Option (List ℕ)) (sent : List Request) (next : Option Request) → WritesBy error a sent next c → WritesPart a sent next c
-by_part DriveError.Read a c sent next w = w
+by_part DriveError.Read a c sent next w = all_part a c sent next w
 by_part DriveError.Write a c sent next w = w
-by_part DriveError.Malformed a c sent next w = w
+by_part DriveError.Malformed a c sent next w = all_part a c sent next w
 by_part DriveError.Limit a c sent next w = w
 by_part DriveError.Memory a c sent next w = w
 by_part DriveError.Sink a c sent next w = whole_part a c sent next w
@@ -76,9 +71,9 @@ by_part DriveError.Sink a c sent next w = whole_part a c sent next w
 -- what was said as what was written
 pub written_by : (error : DriveError) (sent : List Request) (next : Option Request) (start written : Option (List ℕ)) (all : List ℕ) → Appends start written all → WritesBy error (Some []) sent next (Some all)
     → WritesBy error start sent next written
-written_by DriveError.Read sent next start written all a w = (w.0, subst (λ x. Appends start written x) w.1 a)
+written_by DriveError.Read sent next start written all a w = subst (λ x. Appends start written x) w a
 written_by DriveError.Write sent next start written all a w = (w.0, subst (λ x. Appends start written x) w.1 a)
-written_by DriveError.Malformed sent next start written all a w = (w.0, subst (λ x. Appends start written x) w.1 a)
+written_by DriveError.Malformed sent next start written all a w = subst (λ x. Appends start written x) w a
 written_by DriveError.Limit sent next start written all a w = (w.0, subst (λ x. Appends start written x) w.1 a)
 written_by DriveError.Memory sent next start written all a w = (w.0, subst (λ x. Appends start written x) w.1 a)
 written_by DriveError.Sink sent next start written all a w = subst (λ x. Appends start written x) w a
@@ -117,10 +112,7 @@ pub unanswered : (error : DriveError) (request : Request) (before more : List �
     → next ≡ Some request → ArePassed (Some request) passed → Asks request (Err error) (before ++ more) (told ++ read_in talk) passed new b c → Appends a b (frames_of (sent_in talk))
     → DriveCauseAfter before told error (record { bytes = more; talk = talk; more = passed }) next × WritesBy error a (sent_in talk) next c
 unanswered error request before more told talk passed new next a b c same h asks w =
-    let r = at error asks in
-    let part = part_next a c (sent_in talk) request next same (written_part a b c (sent_in talk) request r.1.0 w r.1.1) in
-    let other : error ≢ DriveError.Sink = λ is. subst (λ e. Asks request (Err e) (before ++ more) (told ++ read_in talk) passed new b c) is asks in
-    (subst (λ n. DriveCauseAfter before told error said n) (sym same) r.0, part_by error a c (sent_in talk) next other part)
+    subst (λ n. DriveCauseAfter before told error said n × WritesBy error a (sent_in talk) n c) (sym same) (at error asks)
   where
     said : Said
     said = record { bytes = more; talk = talk; more = passed }
@@ -128,15 +120,21 @@ unanswered error request before more told talk passed new next a b c same h asks
     grouped : (P : List Reply → Type 0) → P ((told ++ read_in talk) ++ passed) → P (told ++ (read_in talk ++ passed))
     grouped P x = subst P (append_assoc told (read_in talk) passed) x
 
+    all : Appends b c (frame (request_body request)) → Appends a c (frames_of (sent_in talk) ++ frame (request_body request))
+    all x = Appends-trans a b c (frames_of (sent_in talk)) (frame (request_body request)) w x
+
+    part : (k : ℕ) × Appends b c (take k (frame (request_body request))) → WritesPart a (sent_in talk) (Some request) c
+    part x = written_part a b c (sent_in talk) request x.0 w x.1
+
     at : (error : DriveError) → Asks request (Err error) (before ++ more) (told ++ read_in talk) passed new b c
-        → DriveCauseAfter before told error said (Some request) × ((k : ℕ) × Appends b c (take k (frame (request_body request))))
-    at DriveError.Read x = ((grouped (λ z. BeginsWithReplies (before ++ more) z) x.0, h), x.1)
+        → DriveCauseAfter before told error said (Some request) × WritesBy error a (sent_in talk) (Some request) c
+    at DriveError.Read x = ((grouped (λ z. IsWaiting (before ++ more) z) x.0, h), all x.1)
     at DriveError.Write x =
         let heard : BeginsWithReplies (before ++ more) (told ++ (read_in talk ++ [])) = heard_all before more told talk x.0 in
-        ((subst (λ z. BeginsWithReplies (before ++ more) (told ++ (read_in talk ++ z))) (sym x.1) heard, x.1), x.2)
-    at DriveError.Malformed x = ((x.0.0, grouped (λ z. IsStream replies (before ++ more) z (Fails x.0.0)) x.0.1, h), x.1)
-    at DriveError.Limit x = ((grouped (λ z. BeginsWithReplies (before ++ more) z) x.0.0, h, inr x.0.1), x.1)
-    at DriveError.Memory x = (grouped (λ z. BeginsWithReplies (before ++ more) z) x.0, x.1)
+        ((subst (λ z. BeginsWithReplies (before ++ more) (told ++ (read_in talk ++ z))) (sym x.1) heard, x.1), part x.2)
+    at DriveError.Malformed x = ((x.0.0, grouped (λ z. IsStream replies (before ++ more) z (Fails x.0.0)) x.0.1, h), all x.1)
+    at DriveError.Limit x = ((grouped (λ z. BeginsWithReplies (before ++ more) z) x.0.0, h, inr x.0.1), part x.1)
+    at DriveError.Memory x = (grouped (λ z. BeginsWithReplies (before ++ more) z) x.0, part x.1)
     at DriveError.Sink x = absurd x
 
 -- a turn more
@@ -231,4 +229,4 @@ once_asked request fits (Ok reply) bytes passed new a b c d read others asks =
     )
 once_asked request fits (Err error) bytes passed new a b c d read others asks =
     let r = unanswered error request [] bytes [] [] passed new (Some request) c c d refl others asks (Appends-nil c) in
-    (record { bytes = bytes; talk = []; more = passed }, read, (refl, r.0, by_part error c d [] (Some request) r.1))
+    (record { bytes = bytes; talk = []; more = passed }, read, (refl, r.0, r.1))

@@ -3,18 +3,14 @@ use Rattle.std.specs.Prelude.{◌≡◌, ◌++◌, ◌∷◌, [], ⊤, ℕ, List
 use Rattle.repo_name.specs.declared.names.Instance.{Instance}
 use Rattle.repo_wire.specs.declared.messages.Reply.{Reply}
 use Rattle.repo_wire.specs.declared.messages.Request.{Request}
-use Rattle.repo_wire.specs.Messages.{replies, request_body}
-use Rattle.repo_wire.specs.Stream.{frame, IsStream, Waits}
+use Rattle.repo_wire.specs.Messages.{request_body}
+use Rattle.repo_wire.specs.Stream.{frame}
 use Rattle.repo_store.specs.Channels.{Passage, heard, said, Passes, heard_in, said_in, AreSaid}
 use Rattle.repo_session.specs.declared.connections.Connection.{Connection}
 use Rattle.repo_session.specs.declared.driving.DriveError.{DriveError}
-use Rattle.repo_session.specs.Connections.{Heard, AreReadPast, Sends, Asks}
+use Rattle.repo_session.specs.Connections.{Heard, IsWaiting, AreReadPast, Sends, Asks}
 use Rattle.repo_session.specs.Talks.{Talk, IsTurn, Said, DrivesAfter, sent_in, read_in, frames_of}
 use Rattle.repo_session.specs.Traces.{Each, Trace}
-
--- these bytes are the frames of the replies, and some part of one more at most
-abbrev pub IsWaiting : List ℕ → List Reply → Type 0
-IsWaiting bytes told = (unread : List ℕ) × IsStream replies bytes told (Waits unread)
 
 -- the reply to the request isn't there yet: behind those told these bytes bring none that is to it
 pub record IsUnanswered (bytes : List ℕ) (told : List Reply) (request : Request) : Type 0 where

@@ -18,6 +18,9 @@ some_in : {A B : Type 0} (f : A → B) (o : Option A) → is_some o ≡ true →
 some_in f None h = absurd (cc)
 some_in f (Some x) h = λ none. absurd (cc)
 
+some_is : {A B : Type 0} (f : A → B) (o : Option A) (x : A) {next : Option B} → o ≡ Some x → option_map f o ≡ next → next ≢ None
+some_is f o x is same none = some_in f o (ap is_some is) (same ∙ none)
+
 pub loop-turn-init : goal.loop-turn-init
 loop-turn-init g c = record {
   gone = λ bytes told h. gone_nowhere g.L.Channel.hears g.L.Channel.says bytes told (g.C.Client.who (g.C.Client.job c.args.client.now)).instance g.C.Client.fits g.C.Client.next c.args.client.now c.args.channel.now c.args.connection.now h (λ t. AreTaken (CalledAt g.F.FnMut) c.args.sink.now (given_in t) c.args.sink.now) refl;
@@ -48,7 +51,7 @@ returns-in_err-reply-clause-carries g c bytes told h =
     let failed : Result ℕ DriveError = Err c.in_err-reply.field-0.0 in
     let n = said.2 (bytes ++ heard_in i.passages) (told ++ read_in i.talk) i.reads in
     rw (p.1, p.2) (
-    gone_unanswered _ _ bytes told _ _ _ _ _ _ _ _ _ i said.0 pending _ c.converse.new.connection c.converse.new.channel n c.in_err-reply.field-0.0 refl
+    gone_unanswered _ _ bytes told _ _ _ _ _ _ _ _ _ i said.0 pending _ c.converse.new.connection c.converse.new.channel n (omega (arith, c.loop-turn-test.true)) c.in_err-reply.field-0.0 refl
     (λ t. IsHandedOn (CalledAt g.F.FnMut) (failed ≡ Err DriveError.Sink) c.args.sink.now t c.loop-turn.sink)
     (λ other. handed_all (CalledAt g.F.FnMut) (failed ≡ Err DriveError.Sink) i.talk c.args.sink.now c.loop-turn.sink (λ sink. other (cc)) handed.1))
 
@@ -62,7 +65,7 @@ returns-in_err-take-clause-carries g c bytes told h =
     let pending : g.C.Client.next c.converse.new.client ≡ Some said.0 = c.in_ok-reply.ensures.next ∙ said.1 in
     let n = said.2 (bytes ++ heard_in i.passages) (told ++ read_in i.talk) i.reads in
     let failed : Result ℕ DriveError = Err DriveError.Memory in
-    rw (p.1, p.2) (gone_untaken _ _ bytes told _ _ _ _ _ _ _ _ _ i said.0 pending _ c.converse.new.connection c.converse.new.channel n c.in_ok-reply.reply refl c.take.new.self
+    rw (p.1, p.2) (gone_untaken _ _ bytes told _ _ _ _ _ _ _ _ _ i said.0 pending _ c.converse.new.connection c.converse.new.channel n (omega (arith, c.loop-turn-test.true)) c.in_ok-reply.reply refl c.take.new.self
     c.in_err-take.ensures.next c.in_err-take.ensures.fits (λ t. IsHandedOn (CalledAt g.F.FnMut) (failed ≡ Err DriveError.Sink) c.args.sink.now t c.loop-turn.sink)
     (handed_all (CalledAt g.F.FnMut) (failed ≡ Err DriveError.Sink) i.talk c.args.sink.now c.loop-turn.sink (λ sink. absurd (cc)) handed.1))
 
@@ -82,7 +85,7 @@ returns-then-not-hand_out-clause-carries g c bytes told h =
     (c.in_ok-take.ensures.taken said.0 pending is.answers) in
     let stops = subst (λ xs. StopsAt (CalledAt g.F.FnMut) c.loop-turn.sink xs c.hand_out.new.sink) c.emitted.ensures (c.hand_out.ensures.stops c.if-not-hand_out.true) in
     let stopped : Result ℕ DriveError = Err DriveError.Sink in
-    gone_stopped _ _ bytes told _ _ _ _ _ _ _ _ _ i said.0 pending _ c.converse.new.connection c.converse.new.channel n c.in_ok-reply.reply refl c.take.new.self given went (stops_some (CalledAt g.F.FnMut) given c.loop-turn.sink c.hand_out.new.sink stops)
+    gone_stopped _ _ bytes told _ _ _ _ _ _ _ _ _ i said.0 pending _ c.converse.new.connection c.converse.new.channel n (omega (arith, c.loop-turn-test.true)) c.in_ok-reply.reply refl c.take.new.self given went (stops_some (CalledAt g.F.FnMut) given c.loop-turn.sink c.hand_out.new.sink stops)
     (λ t. IsHandedOn (CalledAt g.F.FnMut) (stopped ≡ Err DriveError.Sink) c.args.sink.now t c.hand_out.new.sink)
     (handed_some (CalledAt g.F.FnMut) (stopped ≡ Err DriveError.Sink) turn i.talk c.args.sink.now c.loop-turn.sink c.hand_out.new.sink refl handed.1 stops)
 
@@ -102,7 +105,7 @@ loop-turn-preserved g c = record {
       (λ es f. numbered_next _ _ _ _ _ _ _ es (g.C.Client.who (g.C.Client.job c.args.client.now)).instance said.0 (g.met.C.Client.obedient c.converse.new.client es f) pending (ap (λ j. (g.C.Client.who j).instance) (c.in_ok-reply.ensures.job ∙ c.loop-turn.invariant.job)))
       (c.in_ok-take.ensures.taken said.0 pending is.answers) in
       let all = subst (λ xs. AreTaken (CalledAt g.F.FnMut) c.loop-turn.sink xs c.hand_out.new.sink) c.emitted.ensures (c.hand_out.ensures.taken c.if-not-hand_out.false) in
-      gone_on _ _ bytes told _ _ _ _ _ _ _ _ _ i said.0 pending _ c.converse.new.connection c.converse.new.channel n c.in_ok-reply.reply refl c.take.new.self given went
+      gone_on _ _ bytes told _ _ _ _ _ _ _ _ _ i said.0 pending _ c.converse.new.connection c.converse.new.channel n (omega (arith, c.loop-turn-test.true)) c.in_ok-reply.reply refl c.take.new.self given went
       (λ t. AreTaken (CalledAt g.F.FnMut) c.args.sink.now (given_in t) c.hand_out.new.sink)
       (taken_both (CalledAt g.F.FnMut) (given_in i.talk) given c.args.sink.now c.loop-turn.sink c.hand_out.new.sink handed.1 all);
   few = omega (arith, c.loop-turn-test.true);
@@ -125,5 +128,5 @@ returns-in-Some-clause-carries g c bytes told h =
     let i = c.loop-turn.invariant.gone bytes told h in
     let many = c.loop-turn-test.false in
     let far : Result ℕ DriveError = Err DriveError.Limit in
-    gone_far _ _ bytes told _ _ _ _ _ _ _ _ _ i.0 (omega (arith, many)) (λ t. IsHandedOn (CalledAt g.F.FnMut) (far ≡ Err DriveError.Sink) c.args.sink.now t c.loop-turn.sink)
+    gone_far _ _ bytes told _ _ _ _ _ _ _ _ _ i.0 (omega (arith, many, c.loop-turn.invariant.few)) (some_is _ c.pending-2.result _ c.in-Some.is c.pending-2.ensures.next) (λ t. IsHandedOn (CalledAt g.F.FnMut) (far ≡ Err DriveError.Sink) c.args.sink.now t c.loop-turn.sink)
     (handed_all (CalledAt g.F.FnMut) (far ≡ Err DriveError.Sink) i.0.talk c.args.sink.now c.loop-turn.sink (λ sink. absurd (cc)) i.1)
