@@ -55,7 +55,7 @@ def a_full_disk_that_is_restored_to():
             for path, data in entries(yard.top / "to/here").items():
                 if not os.path.basename(path).startswith("!restoring-"):
                     same(data, entries(large)[path], path)
-            same(told("locks", server.address)[:2], "0|")
+            same(told("locks", server.address), "0||")
             restores(server.address, name, yard.top / "elsewhere", entries(large))
 
 

@@ -1,5 +1,5 @@
 -- A connection whose ends go on by what goes over it.
-use Rattle.std.proofs.Common.{◌++◌, ◌∷◌, [], ℕ, List, Option, Some, None, Result, Err, refl, sym, ap, subst, append_assoc, ◌∙◌}
+use Rattle.std.proofs.Common.{◌++◌, ◌∷◌, [], ℕ, List, Option, Some, None, Result, Err, refl, sym, ap, subst, lit≤, append_assoc, ◌∙◌}
 use Rattle.std.proofs.lemmas.List.{append-nil}
 use Rattle.std.specs.Io.KnownBytes.{Appends, Consumes}
 use Rattle.std.proofs.KnownBytes.{Appends-nil, Appends-trans, Consumes-nil, Consumes-trans}
@@ -69,7 +69,7 @@ no_call came = record { came = came; passages = []; said = silent; left = came; 
 pub not_driven : {C J : Type 0} (d : Driven C J) (client : C) (came : ConnectionEnds) → DrivenOver d client (no_call came) (Err DriveError.Memory) client
 not_driven d client came = record {
   over = record { goes = goes_nowhere came; in_turn = tt; bytes = refl };
-  drives = (went_nowhere (d.own (d.job client)) d.fits client, ([], refl), whole_part (Some []) (Some []) [] (d.next client) (Appends-nil (Some [])), refl);
+  drives = (went_nowhere (d.own (d.job client)) d.fits client, ([], refl), whole_part (Some []) (Some []) [] (d.next client) (Appends-nil (Some [])), refl, lit≤ tt);
   same = refl;
   leaves = refl;
   ends = tt;

@@ -125,7 +125,8 @@ fn try_once<C: Client, D: Dial, F: FnMut(&Emission) -> bool>(
 
 /// Carries a client's requests as `drive_over` does, over one connection after another: where one can't be had, ends, or
 /// breaks, or brings what is no stream of replies, it goes on over the next, and sends the request again that is
-/// pending. So many are tried after the first; the error of the last one is told. Other errors end it at once.
+/// pending. So many are tried after the first; the error of the last one is told. Other errors end it at once. It gives how
+/// many requests were sent over the last connection.
 ///
 /// Where more than one may be tried, the store at the other end of each is asked for its config before the client says
 /// anything, and the job goes on only at the store of the first one: `OtherStore` where the config has other bytes.

@@ -90,8 +90,8 @@ pub trait Client {
     fn emitted(&self) -> &[Emission]
         ensures { result.now ≡ given self.now };
 
-    /// The token of its ticket, once it was given one, until it has an outcome: by it its lock can be given back where
-    /// the job is not gone on with.
+    /// The token of its ticket, once it was given one: by it its lock can be given back where the job is not gone on with.
+    /// Once it has an outcome it may tell none.
     fn token(&self) -> Option<Token>
         ensures { result ≡ token_of self.now };
 

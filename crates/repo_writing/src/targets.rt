@@ -25,7 +25,8 @@ impl Target {
         Target { bytes }
     }
 
-    /// The target of a store of this config: the nearest one, where the config's isn't one.
+    /// The target of a store of this config. Of a config with a target that can be none, which no config that was read has, it is
+    /// some target.
     pub fn of_config(config: &Config) -> Target
         ensures { IsTarget config.now.target → result.bytes ≡ config.now.target }
     {
