@@ -16,10 +16,10 @@ use Rattle.repo_session.specs.declared.outcomes.End.{End}
 use Rattle.repo_session.specs.declared.outcomes.Outcome.{Outcome}
 use Rattle.repo_backup.specs.PieceRules.{PieceAllows, PieceConcludes}
 use Rattle.repo_backup.specs.PieceStates.{piece_task}
-use Rattle.repo_backup.specs.Items.{place_of}
-use Rattle.repo_feeding.specs.FedObedience.{told_first}
+use Rattle.repo_backup.specs.Items.{NobodyGaveUp, place_of}
+use Rattle.repo_feeding.specs.FedObedience.{told_first, way_first}
 use Rattle.repo_feeding.specs.FedLaws.{FedClientsAreFed, IsFedClient, StandsAsFed}
-use Rattle.repo_feeding.specs.FedRules.{AreWelcome, IsAsTold, FedAllows, FedConcludes, IsFedLate, IsFedSo}
+use Rattle.repo_feeding.specs.FedRules.{AreWelcome, IsAsTold, IsOnTheWay, FedAllows, FedConcludes, IsFedLate, IsFedSo}
 use Rattle.repo_feeding.specs.Unfed.{unfed}
 use Rattle.repo_feeding.specs.Unseen.{as_silent, before_so, holds_so, locked_late, so_holds, unfed_late, unfed_length}
 

@@ -117,6 +117,11 @@ IsOrder (Order.Init folder making) = IsMaking making
 IsOrder (Order.Serve folder address serving) = IsAddress (string_bytes address) × IsServing serving
 IsOrder (Order.Client address errand retry idle) = IsAddress (string_bytes address) × IsErrand errand × IsIdle idle
 
+-- an order to check a store
+abbrev pub ChecksStore : Order → Type 0
+ChecksStore (Order.Client address errand retry idle) = errand ≡ Errand.Check
+ChecksStore _ = ⊥
+
 -- an order that reads the input
 abbrev pub ReadsInput : Order → Type 0
 ReadsInput Order.Frames = ⊤

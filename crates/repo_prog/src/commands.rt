@@ -3,7 +3,7 @@
 ghost use Rattle.std.specs.Prelude.{◌≡◌, ◌≢◌, ◌⊎◌, ℕ, List, Result, Some, Ok, Err, IfOk, map, string_bytes};
 ghost use Rattle.clap.specs.Values.{kind_of};
 ghost use Rattle.clap.specs.declared.error.kind.ErrorKind.{ErrorKind};
-ghost use Rattle.repo_prog.specs.Commands.{FramesGives, IsOrder, ReadsInput};
+ghost use Rattle.repo_prog.specs.Commands.{ChecksStore, FramesGives, IsOrder, IsStoredStatus, ReadsInput};
 ghost use Rattle.repo_prog.specs.Errands.{OrderGives, Follows, IsToShow};
 ghost use Rattle.repo_prog.specs.Words.{ReadsAs};
 ghost use Rattle.repo_prog.specs.declared.status.Status.{Status};
@@ -74,7 +74,8 @@ fn show<W: Write, F: Write>(error: &clap::Error, console: &mut Console<W, F>) ->
 }
 
 /// Does what is asked for. Of `vault frames`, `play` and `loop` all is said that their engines say; of a client's command what it
-/// says over connections of which nothing is known; of `init` and `serve` their lines. Where it is done, no fault was told.
+/// says over connections of which nothing is known; of `init` and `serve` their lines. Where it is done, no fault was told, nor
+/// where a check found something.
 pub fn perform<
     T: Files + Net + AllocGlobal + RandomSource + Clock + Clone + Drop,
     R: Read,
@@ -86,6 +87,7 @@ where
     requires { IsOrder order }
     ensures silent { result ≡ Status.Done → console.new.faults ≡ console.old.faults }
     ensures status { result ≢ Status.Usage }
+    ensures checked { ChecksStore order → IsStoredStatus result → console.new.faults ≡ console.old.faults }
     ensures unread { ¬ ReadsInput order → input.new ≡ input.old }
     ensures gives { OrderGives order (R.remaining input.old) (R.remaining input.new) (W.contents console.old.output) result (W.contents console.new.output) }
 {
@@ -123,6 +125,7 @@ where
     T::File: HoldFile,
     requires { IfOk order IsOrder }
     ensures follows { Follows order (R.remaining input.old) (R.remaining input.new) (W.contents console.old.output) result (W.contents console.new.output) }
+    ensures checked { (made : Order) → order ≡ Ok made → ChecksStore made → IsStoredStatus result → console.new.faults ≡ console.old.faults }
     ensures unread { (error : OrderError) → order ≡ Err error → input.new ≡ input.old }
     ensures silent { result ≡ Status.Done → console.new.faults ≡ console.old.faults }
     ensures usage { result ≡ Status.Usage → (input.new ≡ input.old) × (console.new.output ≡ console.old.output) }
@@ -148,7 +151,8 @@ pub fn run<
 where
     T::File: HoldFile,
     ensures follows { (order : Result Order OrderError) × ReadsAs (map string_bytes words.now) order
-        × Follows order (R.remaining input.old) (R.remaining input.new) (W.contents console.old.output) result (W.contents console.new.output) }
+        × Follows order (R.remaining input.old) (R.remaining input.new) (W.contents console.old.output) result (W.contents console.new.output)
+        × ((made : Order) → order ≡ Ok made → ChecksStore made → IsStoredStatus result → console.new.faults ≡ console.old.faults) }
     ensures silent { result ≡ Status.Done → console.new.faults ≡ console.old.faults }
     ensures usage { result ≡ Status.Usage → (input.new ≡ input.old) × (console.new.output ≡ console.old.output) }
 {

@@ -10,7 +10,7 @@ Example:
 
 Exit status:
   0  the store is made, and its instance printed
-  1  standard error says why. With `write failed` or `shelf failed` it may be made; else the folder is as it was
+  1  standard error says why. With `write failed` or `shelf failed` it may be made; else it has no config
   2  the words make no command, or a number is outside its limits";
 
 /// Below the help of `vault serve`.

@@ -79,7 +79,7 @@ pub use restore::{Restoring, restore_command};
 pub use routes::Route;
 pub use serve::{Serving, serve_connections, serve_folder};
 pub use snapshots::snapshots_command;
-pub use status::{Status, refuse_words};
+pub use status::{Status, refuse_unread};
 pub use telling::fault_word;
 pub use upgrade::upgrade_command;
 pub use words::{Making, Order, OrderError, WordsError, order_of};

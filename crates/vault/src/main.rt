@@ -2,13 +2,13 @@
 //! status that it gives.
 #![tactic(auto)]
 
-use repo_prog::{Console, refuse_words, run};
+use repo_prog::{Console, refuse_unread, run};
 use std::io;
 use std::process::ExitCode;
 
-/// The words of the command line; `None` where one isn't text, or there is no memory.
-fn words_of(rt: &HostRuntime) -> Option<Vec<String>> {
-    std::env::args(rt).ok()?.collect(rt.alloc()).ok()
+/// The words of the command line. It fails where one isn't text, or there is no memory.
+fn words_of(rt: &HostRuntime) -> io::Result<Vec<String>> {
+    Ok(std::env::args(rt)?.collect(rt.alloc())?)
 }
 
 fn main(rt: HostRuntime) -> ExitCode {
@@ -18,8 +18,8 @@ fn main(rt: HostRuntime) -> ExitCode {
         faults: io::writer(&err),
     };
     let status = match words_of(&rt) {
-        Some(words) => run(&rt, &words, &mut rt.reader(), &mut console),
-        None => refuse_words(&mut console.faults),
+        Ok(words) => run(&rt, &words, &mut rt.reader(), &mut console),
+        Err(error) => refuse_unread(error.kind(), &mut console.faults),
     };
     ExitCode::from(status.code())
 }
