@@ -99,7 +99,7 @@ Plays grammar input unread start (Ok done) contents = (lines : List (List ℕ)) 
 -- all before this one, which isn't understood
 Plays grammar input unread start (Err (LoopError.Play (PlayError.Line n))) contents = (lines left : List (List ℕ)) × (bytes : List ℕ) × (s : State)
     × PlayedSome grammar input start contents lines (bytes ∷ left) s × IsNotUnderstood grammar (length lines) bytes s × (n ≡ length lines + 1)
--- all before one that takes 2^32 steps; or 2^32 lines; or some, where as many bytes were read as there may be reads
+-- all before one that takes 2^32 steps; or 2^32 lines; or some, where the input has as many bytes as there may be reads
 Plays grammar input unread start (Err (LoopError.Play PlayError.Limit)) contents = (lines left : List (List ℕ)) × (s : State)
     × PlayedSome grammar input start contents lines left s × (IsFar grammar left s ⊎ ((2 ^ 32 ≤ length lines) ⊎ (2 ^ 48 ≤ length input)))
 -- all that ended in what was read

@@ -35,7 +35,7 @@ FramesGive input unread start (Err FramesError.Read) contents = (lines : List (L
     × AreLines input lines (last ++ ahead) × IsHexLine last × (unread ≡ Some ahead) × AllTold start lines past (Waits waiting) contents
 -- the lines up to some
 FramesGive input unread start (Err FramesError.Write) contents = (lines : List (List ℕ)) × (past : Past) × (rest : List ℕ) × AreLines input lines rest × SomeTold start lines past contents
--- 2^32 requests were answered, or as many bytes read as there may be reads
+-- 2^32 requests were answered, or the input has as many bytes as there may be reads
 FramesGive input unread start (Err FramesError.Limit) contents =
     (lines : List (List ℕ)) × (past : Past) × (rest : List ℕ) × AreLines input lines rest × SomeTold start lines past contents × ((2 ^ 32 ≤ length past.asked) ⊎ (2 ^ 48 ≤ length input))
 FramesGive input unread start (Err FramesError.Memory) contents = (lines : List (List ℕ)) × (past : Past) × (rest : List ℕ) × AreLines input lines rest × SomeTold start lines past contents

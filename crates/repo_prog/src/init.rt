@@ -50,7 +50,8 @@ fn created_line(alloc: Global, id: &Instance) -> Result<String, AllocError>
 
 /// Keeps the config on a shelf that has none, and writes `created` and the config's instance in
 /// hexadecimal on a line. The texts of its ends: `exists`, `shelf failed`, `out of memory`, and
-/// `write failed` where the line can't be written, though the store was made.
+/// `write failed` where the line can't be written, though the store was made. The config is one of a version that there is, with
+/// a target within its limits.
 pub fn init_command<S: Shelf, W: Write, F: Write>(
     alloc: Global,
     shelf: &mut S,
