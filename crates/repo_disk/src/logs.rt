@@ -19,6 +19,25 @@ pub enum Fate {
     Other(Option<Bytes>),
 }
 
+/// A change of a name: what it is given, or `None` where it loses what it has, and what that comes to.
+#[derive(Debug, Drop)]
+pub struct Change {
+    pub given: Option<File>,
+    pub comes: Comes,
+}
+
+impl Change {
+    /// The change that gives a name this, and lasts.
+    pub fn lasting(given: Option<File>) -> Change
+        ensures { result.given ≡ given }
+    {
+        Change {
+            given,
+            comes: Comes::ToThis,
+        }
+    }
+}
+
 /// What a name of a folder was given, and what it comes to.
 #[derive(Debug, Drop)]
 pub struct Cell {
@@ -107,24 +126,23 @@ fn chosen(comes: Comes, given: &Option<File>, before: Option<Bytes>) -> Fate
     }
 }
 
-/// The cell of a name that is given this, or loses what it has, and comes to what is chosen.
+/// The cell of a name that is changed so.
 pub fn cell_of(
     alloc: Global,
     cells: &[Cell],
     room: Room,
     name: &str,
-    given: Option<File>,
-    comes: Comes,
+    change: Change,
 ) -> Result<Cell, AllocError>
-    ensures { IfOk result (IsGiven cells.now room name.now given) }
+    ensures { IfOk result (IsGiven cells.now room name.now change.given) }
 {
     let before = fate_at(cells, room, name)?;
-    let fate = chosen(comes, &given, before);
+    let fate = chosen(change.comes, &change.given, before);
     let name = Text::of(String::from_str(alloc, name)?);
     Ok(Cell {
         room,
         name,
-        has: given,
+        has: change.given,
         fate,
     })
 }

@@ -8,7 +8,9 @@ ghost use Rattle.repo_disk.specs.declared.rooms.Room.{Room};
 use crate::choices::{Choice, Comes};
 use crate::disks::{Cuts, Disk, DiskError};
 use crate::files::{File, Part};
-use crate::logs::{Cell, cell_of, cut_cells, file_at, has_something, is_decided, list_names};
+use crate::logs::{
+    Cell, Change, cell_of, cut_cells, file_at, has_something, is_decided, list_names,
+};
 use crate::rooms::Room;
 use crate::young::Young;
 use repo_name::{Bytes, Text};
@@ -98,37 +100,30 @@ impl MemDisk {
         Ok(())
     }
 
-    /// A name of a folder is given this, or loses what it has. It fails for memory alone.
-    fn change(
-        &mut self,
-        room: Room,
-        name: &str,
-        given: Option<File>,
-        comes: Comes,
-    ) -> Result<(), AllocError>
-        ensures ok { OnOk result (Gives room name.now given (state_of self.old) (state_of self.new)) }
+    /// A name of a folder is changed so. It fails for memory alone.
+    fn change(&mut self, room: Room, name: &str, change: Change) -> Result<(), AllocError>
+        ensures ok { OnOk result (Gives room name.now change.given (state_of self.old) (state_of self.new)) }
         ensures err { OnErr result (ChangesDrafts (state_of self.old) (state_of self.new)) }
         ensures count { self.new.count ≡ self.old.count }
     {
-        let cell = cell_of(self.alloc, &self.cells, room, name, given, comes)?;
+        let cell = cell_of(self.alloc, &self.cells, room, name, change)?;
         self.log(cell)
     }
 
-    /// A name of a folder is given the file that was written there. It fails for memory alone.
+    /// A name of a folder is changed so, by the file that was written there. It fails for memory alone.
     fn rename(
         &mut self,
         draft: &str,
         room: Room,
         name: &str,
-        file: File,
-        comes: Comes,
+        change: Change,
     ) -> Result<(), AllocError>
-        ensures ok { OnOk result (Gives room name.now (Some file) (state_of self.old) (state_of self.new)) }
+        ensures ok { OnOk result (Gives room name.now change.given (state_of self.old) (state_of self.new)) }
         ensures err { OnErr result (ChangesDrafts (state_of self.old) (state_of self.new)) }
         ensures count { self.new.count ≡ self.old.count }
     {
-        self.change(Room::Temporary, draft, None, Comes::ToThis)?;
-        self.change(room, name, Some(file), comes)
+        self.change(Room::Temporary, draft, Change::lasting(None))?;
+        self.change(room, name, change)
     }
 }
 
@@ -182,7 +177,7 @@ impl Disk for MemDisk {
             bytes: Bytes::of(bytes.to_vec(self.alloc)?),
             lasts: false,
         };
-        Ok(self.change(Room::Temporary, name, Some(file), Comes::ToThis)?)
+        Ok(self.change(Room::Temporary, name, Change::lasting(Some(file)))?)
     }
 
     fn sync_draft(&mut self, name: &str) -> Result<(), DiskError> {
@@ -195,11 +190,11 @@ impl Disk for MemDisk {
             bytes: file.bytes,
             lasts: true,
         };
-        Ok(self.change(Room::Temporary, name, Some(file), Comes::ToThis)?)
+        Ok(self.change(Room::Temporary, name, Change::lasting(Some(file)))?)
     }
 
     fn discard(&mut self, name: &str) {
-        let _ = self.change(Room::Temporary, name, None, Comes::ToThis);
+        let _ = self.change(Room::Temporary, name, Change::lasting(None));
     }
 
     fn place(&mut self, draft: &str, room: Room, name: &str) -> Result<(), DiskError> {
@@ -209,13 +204,29 @@ impl Disk for MemDisk {
             return Err(DiskError::Failed);
         };
         match choice {
-            Choice::Succeeds(comes) => Ok(self.rename(draft, room, name, file, comes)?),
+            Choice::Succeeds(comes) => Ok(self.rename(
+                draft,
+                room,
+                name,
+                Change {
+                    given: Some(file),
+                    comes,
+                },
+            )?),
             Choice::Fails => {
                 self.fail();
                 Err(DiskError::Failed)
             }
             Choice::FailsAfter(comes) => {
-                self.rename(draft, room, name, file, comes)?;
+                self.rename(
+                    draft,
+                    room,
+                    name,
+                    Change {
+                        given: Some(file),
+                        comes,
+                    },
+                )?;
                 self.fail();
                 Err(DiskError::Failed)
             }
@@ -227,7 +238,7 @@ impl Disk for MemDisk {
         match self.next() {
             Choice::Succeeds(comes) => {
                 if was_there {
-                    self.change(room, name, None, comes)?;
+                    self.change(room, name, Change { given: None, comes })?;
                 }
                 Ok(was_there)
             }
@@ -236,7 +247,7 @@ impl Disk for MemDisk {
                 Err(DiskError::Failed)
             }
             Choice::FailsAfter(comes) => {
-                self.change(room, name, None, comes)?;
+                self.change(room, name, Change { given: None, comes })?;
                 self.fail();
                 Err(DiskError::Failed)
             }
