@@ -2,13 +2,16 @@
 use Rattle.std.proofs.Common.{◌≡◌, ◌<◌, ◌≤◌, ◌+◌, ◌-◌, ◌⊎◌, ◌++◌, ◌∷◌, [], ℕ, zero, suc, List, length, take, drop, get_or, Bool, true, false, Some, refl, ap, sym, ◌∙◌, subst, inl, inr, Contains, arith}
 use Rattle.std.specs.Prelude.{slice_get}
 use Rattle.std.specs.Cmp.{eq_by_cmp_equiv}
+use Rattle.std.specs.Bool.{Decides}
 use Rattle.std.specs.List.{AllByRecursion, AllWithin, dedup}
+use Rattle.std.specs.List.Retain.{IsFiltered, DiffersFromLast}
 use Rattle.std.specs.List.Sorted.{IsStrictlySortedBy, IsSorted, IsPermutation, IsPartitionedBy, IsPartitionPoint}
 use Rattle.std.proofs.lemmas.Bool.{cases_lt}
+use Rattle.std.proofs.lemmas.Bool.Decides.{same_from_decides}
 use Rattle.std.proofs.lemmas.Cmp.{tied_itself}
-use Rattle.std.proofs.lemmas.List.{take_more, take-append-drop, length-take-le, length-drop, get_or-take, get_or-drop}
-use Rattle.repo_json.proofs.ListingLemmas.{drop_here}
+use Rattle.std.proofs.lemmas.List.{take_more, drop_more, take-append-drop, length-take-le, length-drop, get_or-take, get_or-drop}
 use Rattle.std.proofs.lemmas.List.Elements.{Contains-append_left, Contains-append_right, Contains-append_cases, Contains-get_or, Contains-push, Contains-push_cases}
+use Rattle.std.proofs.lemmas.List.Filters.{dedup_is}
 use Rattle.std.proofs.lemmas.List.Kept.{IsStrictlySortedBy-dedup, Contains-dedup, Contains-from_dedup}
 use Rattle.std.proofs.lemmas.List.Sorted.{Contains-permutation, IsPermutation-sym}
 use Rattle.std.proofs.lemmas.Map.Keys.{sorted_head, sorted_tail}
@@ -180,21 +183,19 @@ packs_none = record { each = λ p. (λ h. absurd (none_contained p h), λ h. abs
 
 -- ---- a loop over facts in order
 
-take_here : (facts : List Fact) (i : ℕ) (f : Fact) → i < length facts → f ≡ get_or facts i f → take (i + 1) facts ≡ take i facts ++ f ∷ []
-take_here facts i f lt at = take_more facts i f lt ∙ ap (λ (g : Fact). take i facts ++ g ∷ []) (sym at)
+module _ (facts : List Fact) (i : ℕ) (other : Fact) (packs : List Name) (lt : i < length facts) (are : ArePacksOf (take i facts) packs) where
+  pub packs_passed : EndsWith packs (get_or facts i other).place.pack → ArePacksOf (take (i + 1) facts) packs
+  packs_passed ends =
+      subst (λ (fs : List Fact). ArePacksOf fs packs) (sym (take_more facts i other lt)) (packs_same (take i facts) (get_or facts i other) packs are ends)
 
-pub packs_passed : (facts : List Fact) (i : ℕ) (f : Fact) (packs : List Name) → i < length facts → f ≡ get_or facts i f → ArePacksOf (take i facts) packs
-    → EndsWith packs f.place.pack → ArePacksOf (take (i + 1) facts) packs
-packs_passed facts i f packs lt at are ends =
-    subst (λ (fs : List Fact). ArePacksOf fs packs) (sym (take_here facts i f lt at)) (packs_same (take i facts) f packs are ends)
-
-pub packs_added : (facts : List Fact) (i : ℕ) (f : Fact) (packs : List Name) → i < length facts → f ≡ get_or facts i f → IsStrictlySortedBy place_first facts
-    → ArePacksOf (take i facts) packs → (EndsWith packs f.place.pack → ⊥) → ArePacksOf (take (i + 1) facts) (packs ++ f.place.pack ∷ [])
-packs_added facts i f packs lt at sorted are other =
-    let parts : take i facts ++ f ∷ drop (i + 1) facts ≡ facts = ap (λ (fs : List Fact). take i facts ++ fs) (sym (drop_here facts i f lt at)) ∙ take-append-drop i facts in
-    let there = subst (IsStrictlySortedBy place_first) (sym parts) sorted in
-    subst (λ (fs : List Fact). ArePacksOf fs (packs ++ f.place.pack ∷ [])) (sym (take_here facts i f lt at))
-    (packs_more (take i facts) f (drop (i + 1) facts) packs there are other)
+  pub packs_added : IsStrictlySortedBy place_first facts → (EndsWith packs (get_or facts i other).place.pack → ⊥)
+      → ArePacksOf (take (i + 1) facts) (packs ++ (get_or facts i other).place.pack ∷ [])
+  packs_added sorted apart =
+      let fact = get_or facts i other in
+      let parts : take i facts ++ fact ∷ drop (i + 1) facts ≡ facts = ap (λ (fs : List Fact). take i facts ++ fs) (sym (drop_more facts i other lt)) ∙ take-append-drop i facts in
+      let there = subst (IsStrictlySortedBy place_first) (sym parts) sorted in
+      subst (λ (fs : List Fact). ArePacksOf fs (packs ++ fact.place.pack ∷ [])) (sym (take_more facts i other lt))
+      (packs_more (take i facts) fact (drop (i + 1) facts) packs there are apart)
 
 -- ---- a pack's facts
 
@@ -316,6 +317,17 @@ sorted_equal a b h = place_first_exact a b (is_equal (place_first a b) h)
     is_equal Less h = cc h
     is_equal Equal h = refl
     is_equal Greater h = cc h
+
+-- what a `dedup` by equality leaves of them
+pub once_is : (same : Fact → Fact → Bool) (sorted once : List Fact) → IsFiltered (DiffersFromLast same) [] sorted once → ((a b : Fact) → Decides (same a b) (a ≡ b))
+    → once ≡ dedup (eq_by_cmp place_first) sorted
+once_is same sorted once left decides = dedup_is same sorted once left ∙ ap (λ (test : Fact → Fact → Bool). dedup test sorted) (λ i a b. ties a b i)
+  where
+    ties : (a b : Fact) → same a b ≡ eq_by_cmp place_first a b
+    ties a b = same_from_decides (same a b) (eq_by_cmp place_first a b) (decides a b) (
+      sorted_equal a b,
+      λ is. subst (λ (f : Fact). eq_by_cmp place_first a f ≡ true) is ((eq_by_cmp_equiv place_first_total).refl a),
+    )
 
 pub once_same : (facts sorted : List Fact) → IsPermutation facts sorted → HasSame facts (dedup (eq_by_cmp place_first) sorted)
 once_same facts sorted same f = (

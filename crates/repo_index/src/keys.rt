@@ -1,8 +1,8 @@
-//! Facts under the two orders of a look-up.
+//! The two orders of facts.
 
 ghost use Rattle.std.specs.Prelude.{◌≡◌};
 ghost use Rattle.repo_pack.specs.PackLayout.{kind_number};
-ghost use Rattle.repo_index.specs.Order.{kind_cmp, place_cmp};
+ghost use Rattle.repo_index.specs.Order.{kind_cmp, place_cmp, place_first};
 
 use crate::facts::Fact;
 use repo_name::BlobKind;
@@ -37,93 +37,13 @@ fn compare_places(a: &Place, b: &Place) -> Ordering
         .then(a.length.cmp(&b.length))
 }
 
-/// A fact that goes by its place, then by its kind and name. A clause sees the fact.
-#[derive(Clone, Copy, Debug)]
-pub(crate) struct ByPlace {
-    fact: Fact,
-}
-
-impl Model for ByPlace {
-    ghost use Rattle.repo_index.specs.declared.facts.Fact.{Fact};
-
-    ghost Value = { Fact };
-
-    ghost view = { λ k. k.fact };
-
-    ghost inverse = { λ f. record { fact = f } };
-}
-
-impl ByPlace {
-    ghost use Rattle.std.specs.Prelude.{◌≡◌};
-
-    /// The key of a fact.
-    pub(crate) fn of(fact: Fact) -> ByPlace
-        ensures { result ≡ fact }
-    {
-        ByPlace { fact }
-    }
-
-    /// The fact.
-    pub(crate) fn fact(&self) -> Fact
-        ensures { result ≡ self.now }
-    {
-        self.fact
-    }
-}
-
-impl PartialEq for ByPlace {
-    ghost use Rattle.std.specs.Ordering.{eq_by_cmp};
-    ghost use Rattle.std.specs.Cmp.{partial_equiv_from_equiv, eq_by_cmp_equiv};
-    ghost use Rattle.repo_index.specs.Order.{place_first, place_first_total};
-
-    ghost eq = { eq_by_cmp place_first };
-
-    ghost laws = { partial_equiv_from_equiv (eq_by_cmp_equiv place_first_total) };
-
-    fn eq(&self, other: &ByPlace) -> bool {
-        self.cmp(other) == Ordering::Equal
-    }
-}
-
-impl Eq for ByPlace {
-    ghost use Rattle.std.specs.Cmp.{eq_by_cmp_equiv};
-    ghost use Rattle.repo_index.specs.Order.{place_first_total};
-
-    ghost laws = { eq_by_cmp_equiv place_first_total };
-}
-
-impl PartialOrd for ByPlace {
-    ghost use Rattle.std.specs.Ordering.{as_partial_cmp};
-    ghost use Rattle.std.specs.Cmp.{partial_order_from_total};
-    ghost use Rattle.repo_index.specs.Order.{place_first, place_first_total};
-
-    ghost partial_cmp = { as_partial_cmp place_first };
-
-    ghost laws = { partial_order_from_total place_first_total };
-
-    fn partial_cmp(&self, other: &ByPlace) -> Option<Ordering> {
-        Some(self.cmp(other))
-    }
-}
-
-impl Ord for ByPlace {
-    ghost use Rattle.std.specs.Prelude.{refl};
-    ghost use Rattle.repo_index.specs.Order.{place_first, place_first_total};
-
-    ghost cmp = { place_first };
-
-    ghost total = { place_first_total };
-
-    ghost matches_partial_cmp = { λ a b. refl };
-
-    ghost matches_eq = { λ a b. refl };
-
-    fn cmp(&self, other: &ByPlace) -> Ordering {
-        let (a, b) = (&self.fact, &other.fact);
-        compare_places(&a.place, &b.place)
-            .then(compare_kinds(a.kind, b.kind))
-            .then(a.name.cmp(&b.name))
-    }
+/// How two facts go by their places, then by their kinds and names.
+pub(crate) fn compare_by_place(a: &Fact, b: &Fact) -> Ordering
+    ensures { result ≡ place_first a.now b.now }
+{
+    compare_places(&a.place, &b.place)
+        .then(compare_kinds(a.kind, b.kind))
+        .then(a.name.cmp(&b.name))
 }
 
 /// A fact that goes by its kind and name, then by its place. A clause sees the fact.

@@ -9,7 +9,7 @@ ghost use Rattle.repo_index.specs.declared.facts.Fact.{Fact};
 use crate::bounds::{greatest_of_pair, least_of_pair};
 use crate::facts::{Fact, Facts, PackFacts};
 use crate::index_text::IndexText;
-use crate::keys::{ByName, ByPlace};
+use crate::keys::ByName;
 use crate::placed::Placed;
 use repo_name::{BlobKind, Name};
 use repo_pack::Place;
@@ -166,7 +166,7 @@ impl Lookup {
         let facts = self
             .by_name
             .iter()
-            .map(|key| ByPlace::of(key.fact()))
+            .map(|key| key.fact())
             .collect(self.alloc)?;
         Ok(Placed::of(self.alloc, facts))
     }

@@ -3,8 +3,8 @@
 ghost use Rattle.std.specs.Prelude.{◌↔◌, IsTrue, IfOk};
 ghost use Rattle.repo_index.specs.Lookups.{AreFacts, EndsWith, ArePacksOf, AreFactsOf, HasSame};
 
-use crate::facts::Facts;
-use crate::keys::ByPlace;
+use crate::facts::{Fact, Facts};
+use crate::keys::compare_by_place;
 use repo_name::{Name, Names};
 use std::alloc::{AllocError, Global};
 use std::marker::Model;
@@ -15,7 +15,7 @@ use std::marker::Model;
 /// A fact takes 76 bytes, in one sorted list.
 #[derive(Drop)]
 pub struct Placed {
-    by_place: Vec<ByPlace>,
+    by_place: Vec<Fact>,
     alloc: Global,
 }
 
@@ -45,12 +45,12 @@ fn ends_with(names: &[Name], name: &Name) -> bool
 
 impl Placed {
     /// These facts, each once. It takes no memory.
-    pub(crate) fn of(alloc: Global, facts: Vec<ByPlace>) -> Placed
+    pub(crate) fn of(alloc: Global, facts: Vec<Fact>) -> Placed
         requires { AreFacts facts.items }
         ensures { HasSame facts.items result }
     {
         let mut by_place = facts;
-        by_place.sort_unstable();
+        by_place.sort_unstable_by(|a, b| compare_by_place(a, b));
         by_place.dedup();
         Placed { by_place, alloc }
     }
@@ -60,23 +60,22 @@ impl Placed {
         ensures { IfOk result (ArePacksOf self.now) }
     {
         let mut packs: Vec<Name> = Vec::new(self.alloc);
-        for key in self.by_place.as_slice() {
-            let pack = key.fact().place.pack;
-            if !ends_with(packs.as_slice(), &pack) {
-                packs.push(pack)?;
+        for fact in self.by_place.as_slice() {
+            if !ends_with(packs.as_slice(), &fact.place.pack) {
+                packs.push(fact.place.pack)?;
             }
         }
         Ok(Names::of(packs))
     }
 
     /// The run of a pack's facts.
-    fn run_of(&self, pack: &Name) -> &[ByPlace]
+    fn run_of(&self, pack: &Name) -> &[Fact]
         ensures { AreFactsOf self.now pack.now result.now }
     {
         let facts = self.by_place.as_slice();
-        let start = facts.partition_point(|key| key.fact().place.pack.cmp(pack).is_lt());
+        let start = facts.partition_point(|fact| fact.place.pack.cmp(pack).is_lt());
         let rest = &facts[start..];
-        let count = rest.partition_point(|key| key.fact().place.pack.cmp(pack).is_le());
+        let count = rest.partition_point(|fact| fact.place.pack.cmp(pack).is_le());
         &rest[..count]
     }
 
@@ -84,11 +83,6 @@ impl Placed {
     pub fn facts_of(&self, pack: &Name) -> Result<Facts, AllocError>
         ensures { IfOk result (AreFactsOf self.now pack.now) }
     {
-        let facts = self
-            .run_of(pack)
-            .iter()
-            .map(|key| key.fact())
-            .collect(self.alloc)?;
-        Ok(Facts::of(facts))
+        Ok(Facts::of(Vec::from_slice(self.alloc, self.run_of(pack))?))
     }
 }
