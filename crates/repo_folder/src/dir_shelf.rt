@@ -11,7 +11,6 @@ ghost use Rattle.repo_store.specs.Slices.{IsSlice, HasLength};
 ghost use Rattle.repo_store.specs.declared.shelves.ShelfError.{ShelfError};
 
 use crate::folders::Folder;
-use crate::pages::{pack_page, room_page};
 use crate::places::{CONFIG, CONFIG_DRAFT, LEDGER, LEDGER_DRAFT, draft_of, room_of};
 use crate::telling::told;
 use repo_disk::{Disk, Part, Room};
@@ -111,15 +110,9 @@ impl<D: Disk> Shelf for DirShelf<D> {
         limit: usize,
     ) -> Result<Page, ShelfError> {
         match kind {
-            Kind::Pack => pack_page(&mut self.folder, self.alloc, after, limit),
-            Kind::Index => {
-                let room = Room::Indexes;
-                room_page(&mut self.folder, self.alloc, kind, room, after, limit)
-            }
-            Kind::Snapshot => {
-                let room = Room::Snapshots;
-                room_page(&mut self.folder, self.alloc, kind, room, after, limit)
-            }
+            Kind::Pack => self.pack_page(after, limit),
+            Kind::Index => self.room_page(kind, Room::Indexes, after, limit),
+            Kind::Snapshot => self.room_page(kind, Room::Snapshots, after, limit),
         }
     }
 

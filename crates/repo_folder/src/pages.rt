@@ -13,38 +13,13 @@ ghost use Rattle.repo_folder.specs.Folders.{IsKept, IsHonest, Stays};
 ghost use Rattle.repo_folder.specs.Listings.{least_first};
 ghost use Rattle.repo_folder.specs.Spelling.{room_of, spelled};
 
-use crate::folders::Folder;
+use crate::dir_shelf::DirShelf;
 use crate::listing::add_room;
 use repo_disk::{Disk, Room};
 use repo_name::{Kind, Name};
 use repo_store::{Page, ShelfError, page_after};
 use std::alloc::{AllocError, Global};
 use std::collections::BTreeMap;
-
-/// A page of the names of objects of a kind, all of which stand in one folder.
-pub fn room_page<D: Disk>(
-    folder: &mut Folder<D>,
-    alloc: Global,
-    kind: Kind,
-    room: Room,
-    after: Option<&Name>,
-    limit: usize,
-) -> Result<Page, ShelfError>
-    requires { IsKept room }
-    ensures law { IsHonest (D.faithful folder.old.disk) folder.old.standing (D.state folder.old.disk) → ((n : Name) → room_of kind n ≡ room)
-        → ReadsPage kind (option_map (λ name. name.now) after.entry) limit (spelled (D.state folder.old.disk).fate) result (spelled (D.state folder.new.disk).fate) }
-    ensures stays { IsHonest (D.faithful folder.old.disk) folder.old.standing (D.state folder.old.disk)
-        → Stays (D.state folder.old.disk) (D.state folder.new.disk) }
-    ensures honest { IsHonest (D.faithful folder.old.disk) folder.old.standing (D.state folder.old.disk)
-        → IsHonest (D.faithful folder.new.disk) folder.new.standing (D.state folder.new.disk) }
-    ensures cause { HasCause (D.failed folder.old.disk) result (D.failed folder.new.disk) }
-    ensures few { IfOk result (λ page. length page.names ≤ limit) }
-    ensures names { IfOk result (λ page. All IsName page.names) }
-{
-    let mut names = BTreeMap::new(alloc);
-    add_room(folder, kind, room, after, &mut names)?;
-    Ok(page_after(alloc, &names, after, limit)?)
-}
 
 /// The least first byte of a name above this one.
 fn least_first(after: Option<&Name>) -> u8
@@ -87,29 +62,55 @@ fn full_page(
     Ok(None)
 }
 
-/// A page of the names of packs. Folder after folder is looked at, until more names are there than are wanted.
-pub fn pack_page<D: Disk>(
-    folder: &mut Folder<D>,
-    alloc: Global,
-    after: Option<&Name>,
-    limit: usize,
-) -> Result<Page, ShelfError>
-    ensures law { IsHonest (D.faithful folder.old.disk) folder.old.standing (D.state folder.old.disk)
-        → ReadsPage Kind.Pack (option_map (λ name. name.now) after.entry) limit (spelled (D.state folder.old.disk).fate) result (spelled (D.state folder.new.disk).fate) }
-    ensures stays { IsHonest (D.faithful folder.old.disk) folder.old.standing (D.state folder.old.disk)
-        → Stays (D.state folder.old.disk) (D.state folder.new.disk) }
-    ensures honest { IsHonest (D.faithful folder.old.disk) folder.old.standing (D.state folder.old.disk)
-        → IsHonest (D.faithful folder.new.disk) folder.new.standing (D.state folder.new.disk) }
-    ensures cause { HasCause (D.failed folder.old.disk) result (D.failed folder.new.disk) }
-    ensures few { IfOk result (λ page. length page.names ≤ limit) }
-    ensures names { IfOk result (λ page. All IsName page.names) }
-{
-    let mut names = BTreeMap::new(alloc);
-    for first in least_first(after) as u16..256 {
-        add_room(folder, Kind::Pack, packs_at(first), after, &mut names)?;
-        if let Some(page) = full_page(alloc, &names, after, limit)? {
-            return Ok(page);
-        }
+impl<D: Disk> DirShelf<D> {
+    /// A page of the names of objects of a kind, all of which stand in one folder.
+    pub(crate) fn room_page(
+        &mut self,
+        kind: Kind,
+        room: Room,
+        after: Option<&Name>,
+        limit: usize,
+    ) -> Result<Page, ShelfError>
+        requires { IsKept room }
+        ensures law { IsHonest (D.faithful self.old.folder.disk) self.old.folder.standing (D.state self.old.folder.disk) → ((n : Name) → room_of kind n ≡ room)
+            → ReadsPage kind (option_map (λ name. name.now) after.entry) limit (spelled (D.state self.old.folder.disk).fate) result (spelled (D.state self.new.folder.disk).fate) }
+        ensures stays { IsHonest (D.faithful self.old.folder.disk) self.old.folder.standing (D.state self.old.folder.disk)
+            → Stays (D.state self.old.folder.disk) (D.state self.new.folder.disk) }
+        ensures honest { IsHonest (D.faithful self.old.folder.disk) self.old.folder.standing (D.state self.old.folder.disk)
+            → IsHonest (D.faithful self.new.folder.disk) self.new.folder.standing (D.state self.new.folder.disk) }
+        ensures cause { HasCause (D.failed self.old.folder.disk) result (D.failed self.new.folder.disk) }
+        ensures few { IfOk result (λ page. length page.names ≤ limit) }
+        ensures names { IfOk result (λ page. All IsName page.names) }
+    {
+        let mut names = BTreeMap::new(self.alloc);
+        add_room(&mut self.folder, kind, room, after, &mut names)?;
+        Ok(page_after(self.alloc, &names, after, limit)?)
     }
-    Ok(page_after(alloc, &names, after, limit)?)
+
+    /// A page of the names of packs. Folder after folder is looked at, until more names are there than are wanted.
+    pub(crate) fn pack_page(
+        &mut self,
+        after: Option<&Name>,
+        limit: usize,
+    ) -> Result<Page, ShelfError>
+        ensures law { IsHonest (D.faithful self.old.folder.disk) self.old.folder.standing (D.state self.old.folder.disk)
+            → ReadsPage Kind.Pack (option_map (λ name. name.now) after.entry) limit (spelled (D.state self.old.folder.disk).fate) result (spelled (D.state self.new.folder.disk).fate) }
+        ensures stays { IsHonest (D.faithful self.old.folder.disk) self.old.folder.standing (D.state self.old.folder.disk)
+            → Stays (D.state self.old.folder.disk) (D.state self.new.folder.disk) }
+        ensures honest { IsHonest (D.faithful self.old.folder.disk) self.old.folder.standing (D.state self.old.folder.disk)
+            → IsHonest (D.faithful self.new.folder.disk) self.new.folder.standing (D.state self.new.folder.disk) }
+        ensures cause { HasCause (D.failed self.old.folder.disk) result (D.failed self.new.folder.disk) }
+        ensures few { IfOk result (λ page. length page.names ≤ limit) }
+        ensures names { IfOk result (λ page. All IsName page.names) }
+    {
+        let mut names = BTreeMap::new(self.alloc);
+        for first in least_first(after) as u16..256 {
+            let room = packs_at(first);
+            add_room(&mut self.folder, Kind::Pack, room, after, &mut names)?;
+            if let Some(page) = full_page(self.alloc, &names, after, limit)? {
+                return Ok(page);
+            }
+        }
+        Ok(page_after(self.alloc, &names, after, limit)?)
+    }
 }

@@ -5,7 +5,7 @@ use Rattle.repo_store.specs.Memory.{above, IsFirstPart}
 use Rattle.repo_store.specs.declared.shelves.Page.{Page}
 use Rattle.repo_folder.proofs.ListingLemmas.{packs_step, page_of_packs}
 use Rattle.repo_folder.proofs.SpellingLemmas.{store_stays}
-use Rattle.repo_folder.proofs.pages.pack_page.Goals as goal
+use Rattle.repo_folder.proofs.dir_shelf.DirShelf.pack_page.Goals as goal
 
 pub returns-in-Some-clause-law : goal.returns-in-Some-clause-law
 returns-in-Some-clause-law g c h =
@@ -13,11 +13,11 @@ returns-in-Some-clause-law g c h =
     let add = c.in_ok-add_room.ensures in
     let first = c.loop-first.first in
     let after = option_map (λ name. name.now) c.args.after in
-    let old = g.D.Disk.state c.args.folder.now.disk in
+    let old = g.D.Disk.state c.args.self.now.folder.disk in
     let names = c.add_room.new.names in
     let page = c.in-Some.page in
     let small : first < 256 = search rules in
-    let packs = packs_step after first old (g.D.Disk.state c.loop-first.folder.disk) c.loop-first.names names c.packs_at.result c.packs_at.ensures.room small (inv.stays h) (inv.packs h)
+    let packs = packs_step after first old (g.D.Disk.state c.loop-first.self.folder.disk) c.loop-first.names names c.packs_at-room.result c.packs_at-room.ensures.room small (inv.stays h) (inv.packs h)
     (add.joins (inv.honest h)) in
     let Cut : Page → Type 0 = λ page. IsFirstPart (above after names) c.args.limit page.names page.more in
     let Ordered : Page → Type 0 = λ page. IsOrdered name_cmp names in
@@ -34,9 +34,9 @@ returns-clause-law g c h =
     let inv = c.loop-first.invariant in
     let first = c.loop-first.first in
     let after = option_map (λ name. name.now) c.args.after in
-    let old = g.D.Disk.state c.args.folder.now.disk in
+    let old = g.D.Disk.state c.args.self.now.folder.disk in
     let page = c.in_ok-page_after.field-0 in
     let all : 256 ≤ first = search rules in (
       page_of_packs old.fate after c.args.limit first c.loop-first.names page.names page.more c.in_ok-page_after.ensures.ordered (inv.packs h) (inr all) c.in_ok-page_after.ensures.cut,
-      store_stays old (g.D.Disk.state c.loop-first.folder.disk) (inv.stays h),
+      store_stays old (g.D.Disk.state c.loop-first.self.folder.disk) (inv.stays h),
     )
