@@ -1,8 +1,9 @@
 //! The nodes of one directory, as they are given out.
 
 ghost use Rattle.std.specs.Prelude.{◌≡◌, ◌+◌, ◌++◌, ◌∷◌, [], ℕ, List, IfOk};
+ghost use Rattle.repo_session.specs.declared.emissions.Emission.{Emission};
 ghost use Rattle.repo_restore.specs.Walks.{Files, LeftOf};
-ghost use Rattle.repo_restore.specs.Nodes.{BlobFollows, PartFollows, DirBegins, FileBegins};
+ghost use Rattle.repo_restore.specs.Nodes.{BlobFollows, PartFollows, DirBegins};
 
 use repo_index::{Fact, Lookup};
 use repo_name::{BlobKind, Name, Text, Thing};
@@ -130,25 +131,18 @@ pub fn begin_dir(
     }
 }
 
-/// Looks up the blobs of a file, and gives out its beginning. It fails for memory alone.
+/// Gives out the beginning of a file, and looks up its first blob; or closes it, where it has none. It fails for memory
+/// alone.
 pub fn begin_file(
     lookup: &Lookup,
-    tree: Name,
     path: Path,
-    size: u64,
     content: &[Name],
     out: &mut Vec<Emission>,
 ) -> Result<Begun, AllocError>
-    ensures { IfOk result (FileBegins lookup.now tree path size content.now out.old.items out.new.items) }
+    ensures { IfOk result (BlobFollows lookup.now content.now 0 (out.old.items ++ Emission.File path ∷ []) out.new.items) }
 {
-    match check_file(lookup, size, content) {
-        Filed::Even => {
-            out.push(Emission::File(path))?;
-            next_blob(lookup, content, 0, out)
-        }
-        Filed::Missing(name) => Ok(Begun::Ended(End::Missing(Thing::Content, name))),
-        Filed::Uneven => Ok(Begun::Ended(End::BadObject(Thing::Tree, tree))),
-    }
+    out.push(Emission::File(path))?;
+    next_blob(lookup, content, 0, out)
 }
 
 /// What comes behind the nodes of a part, where all were given out: the tree in which the directory goes on is looked up.

@@ -8,9 +8,10 @@ ghost use Rattle.repo_restore.specs.Restoring.{counted};
 ghost use Rattle.repo_restore.specs.Walking.{NodeBegins, BeginsNext, GoesToStop};
 ghost use Rattle.repo_restore.specs.Moves.{NextMoves, StopMoves};
 
-use crate::nodes::{Begun, Level, begin_dir, begin_file, next_part, path_of};
+use crate::nodes::{Begun, Filed, Level, begin_dir, begin_file, check_file, next_part, path_of};
 use repo_index::Lookup;
-use repo_session::Emission;
+use repo_name::Thing;
+use repo_session::{Emission, End};
 use repo_tree::{Node, NodeKind};
 use std::alloc::{AllocError, Global};
 
@@ -57,7 +58,8 @@ pub fn count_entries(emitted: &[Emission]) -> u64
     count
 }
 
-/// Gives out a node, or its beginning. It fails for memory alone.
+/// Gives out a node, or its beginning: a file's only where all its blobs have places, and together its size. It fails for
+/// memory alone.
 fn begin_node(
     alloc: Global,
     lookup: &Lookup,
@@ -70,9 +72,11 @@ fn begin_node(
     let path = path_of(alloc, &level.path, &node.name)?;
     match &node.what {
         NodeKind::Dir { subtree } => begin_dir(lookup, path, *subtree, out),
-        NodeKind::File { size, content } => {
-            begin_file(lookup, level.tree, path, *size, content.as_slice(), out)
-        }
+        NodeKind::File { size, content } => match check_file(lookup, *size, content.as_slice()) {
+            Filed::Even => begin_file(lookup, path, content.as_slice(), out),
+            Filed::Missing(name) => Ok(Begun::Ended(End::Missing(Thing::Content, name))),
+            Filed::Uneven => Ok(Begun::Ended(End::BadObject(Thing::Tree, level.tree))),
+        },
     }
 }
 
