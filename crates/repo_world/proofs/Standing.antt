@@ -42,7 +42,7 @@ delivers_so H G f w (Some (Said k reply)) a v d = d
 pub steps_plainly : (own owned : ℕ) (left : Armed) (old : Store) (ask : Ask) (say : Say) (new : Store) → StepsAsArmed Armed.Nothing own left owned old ask say new → Plainly (HasFailed own owned) old ask say new
 steps_plainly own owned left old ask say new (s, armed) = (s, caused armed.0)
   where
-    caused : ((Armed.Nothing ≢ Armed.Nothing) × (left ≡ Armed.Nothing)) ⊎ ((left ≡ Armed.Nothing) × (say ≡ Say.Refused Code.Fault → HasFailed own owned)) → say ≡ Say.Refused Code.Fault → HasFailed own owned
+    caused : IsLeft (HasFailed own owned) Armed.Nothing say left → say ≡ Say.Refused Code.Fault → HasFailed own owned
     caused (inl h) e = absurd (h.0 refl)
     caused (inr h) e = h.1 e
 
