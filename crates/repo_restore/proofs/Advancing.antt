@@ -147,7 +147,7 @@ walk_concludes known c s version root es end h all found e came = ⊎_elim (λ w
 -- the tree that the newest exchange brought was refused
 pub refused_now : (e : Exchange) (es : Trace) (version : ℕ) (root name : Name) (x : List ℕ) (out : List Emission) (end : End) → e.say ≡ Say.Bytes x → naming.name x ≡ name → e.emitted ≡ out
     → RefusesTree (Some name) version (Received (e ∷ es)) root (emitted_in es) out end → IsRefused (e ∷ es) version root end
-refused_now e es version root name x out end said named is r = (name, r.3.0, r.0, r.3.1, r.3.2, (r.3.3, (x, said, named), is ∙ r.1, r.2))
+refused_now e es version root name x out end said named is r = (name, r.2.0, r.0, r.2.1, r.2.2, ((x, said, named), is ∙ r.1, r.2.3))
 
 -- nothing was given out yet
 pub before_on : (walk : Walk) (given : List Emission) (e : Exchange) (es : Trace) → e.emitted ≡ given → IsBefore walk given es → IsBefore walk given (e ∷ es)

@@ -7,6 +7,7 @@ pub mod Closing
 pub mod Trees
 pub mod Passing
 pub mod Positioning
+pub mod Refusing
 pub mod Begins
 pub mod Moving
 pub mod Growing

@@ -25,12 +25,12 @@ node_listed : (version : ℕ) (B : Blobs) (tree : Name) (path : List (List ℕ))
 node_listed version B tree path entries node h = first_lists version B tree (h.nodes ++ node ∷ []) node h.has (last_contained h.nodes node [])
 
 -- the names that lead down to a directory are the path of each of its trees
-down_under : (version : ℕ) (B : Blobs) (from : Name) (path names : List (List ℕ)) (tree : Name) (entries : List Entry) (part : Name) → LeadsDown version B from path names tree entries → IsPartBy version B tree part → Under version B from names part
+pub down_under : (version : ℕ) (B : Blobs) (from : Name) (path names : List (List ℕ)) (tree : Name) (entries : List Entry) (part : Name) → LeadsDown version B from path names tree entries → IsPartBy version B tree part → Under version B from names part
 down_under version B from path [] tree entries part h on = subst (λ t. IsPartBy version B t part) h.0 on
 down_under version B from path (name ∷ names) tree entries part h on =
     (h.0, node_listed version B from path h.1 (record { name = name; what = NodeKind.Dir h.0 }) h.3, down_under version B h.0 (path ++ name ∷ []) names tree h.2 part h.4 on)
 
-through_goes : (B : Blobs) (first : Name) (parts : List (List Node)) (tree : Name) → LeadsThrough B first parts tree → (through : List Name) × GoesOn B first through tree
+pub through_goes : (B : Blobs) (first : Name) (parts : List (List Node)) (tree : Name) → LeadsThrough B first parts tree → (through : List Name) × GoesOn B first through tree
 through_goes B first [] tree h = ([], h)
 through_goes B first (nodes ∷ parts) tree h = let r = through_goes B h.0 parts tree h.2 in (h.0 ∷ r.0, (nodes, h.1, r.1))
 

@@ -25,9 +25,9 @@ use Rattle.repo_session.specs.Traces.{Each}
 use Rattle.repo_restore.specs.declared.nodes.Begun.{Begun}
 use Rattle.repo_restore.specs.declared.nodes.Level.{Level}
 use Rattle.repo_restore.specs.Nodes.{WaitsFor, BlobFollows}
-use Rattle.repo_session.specs.Trees.{Under, IsNoText, GoesWrong, IsBroken}
+use Rattle.repo_session.specs.Trees.{Under}
 use Rattle.repo_restore.specs.Restoring.{counted, Sums}
-use Rattle.repo_restore.specs.Walking.{WaitsIn, WaitsBehind, WaitsAs, with_begun, IsNextPath, MayFollow, FileWaits, TreeWaits, PartWaits, TreeWaitsBy, WaitsByKind, WalkWaits, IsBrokenTree}
+use Rattle.repo_restore.specs.Walking.{WaitsIn, WaitsBehind, WaitsAs, with_begun, IsNextPath, MayFollow, FileWaits, TreeWaits, PartWaits, WaitsByKind, WalkWaits}
 use Rattle.repo_restore.specs.Positions.{LeadsThrough, ComesBehind, HaveNodes, LaterHaveNodes, nodes_in, ArePiecesOf}
 use Rattle.repo_restore.specs.Walks.{PartIs, IsOpenLevel, DirectoryIsBegun, IsFile, IsWriting, LeadsOn, AtLevel, AtOpen, WalkGives, is_open, WalkGave}
 use Rattle.repo_session.proofs.Descending.{under_more}
@@ -235,7 +235,7 @@ joined_order [] first more h g last = g
 joined_order (n ∷ []) first more h g last = (h.0, last, g)
 joined_order (n ∷ k ∷ nodes) first more h g last = (h.0, h.1, joined_order (k ∷ nodes) first more h.2 g last)
 
-order_right : (ns ms : List Node) → AreInOrder (ns ++ ms) → AreInOrder ms
+pub order_right : (ns ms : List Node) → AreInOrder (ns ++ ms) → AreInOrder ms
 order_right [] ms h = h
 order_right (n ∷ ns) ms h = order_right ns ms h.2
 
@@ -249,7 +249,7 @@ some_behind nodes [] may = absurd may
 some_behind nodes (first ∷ more) may = λ e. absurd (cc)
 
 -- across all parts, where it does across the last two
-all_order : (parts : List (List Node)) (nodes behind : List Node) → (parts ≢ [] → nodes ≢ []) → AreInOrder (nodes_in parts ++ nodes) → AreInOrder (nodes ++ behind) → AreInOrder (nodes_in parts ++ (nodes ++ behind))
+pub all_order : (parts : List (List Node)) (nodes behind : List Node) → (parts ≢ [] → nodes ≢ []) → AreInOrder (nodes_in parts ++ nodes) → AreInOrder (nodes ++ behind) → AreInOrder (nodes_in parts ++ (nodes ++ behind))
 all_order [] nodes behind full h g = g
 all_order (first ∷ parts) nodes behind full h g = order_join (nodes_in (first ∷ parts)) nodes behind (full (λ e. absurd (cc))) h g
 
@@ -285,30 +285,6 @@ entered_part version B root levels level fact old h read t p shallow may =
           (subst (λ ns. NodesSpell B (Spells version B) h.level.path ns h.inside) (ap (λ ns. nodes_in o.parts ++ ns) (take_all (length own) own (omega arith)) ∙ sym all ∙ sym (append-nil (nodes_in (o.parts ++ own ∷ [])))) o.spelled);
     })
     h.whole
-
--- or it is broken
-goes_wrong : (version : ℕ) (B : Blobs) (part tree : Name) (nodes more : List Node) (next : Option Name) → PartIs version B part nodes (Some tree) → PartIs version B tree more next → (more ≡ []) ⊎ ¬ AreInOrder (nodes ++ more) → GoesWrong version B part tree
-goes_wrong (suc (suc zero)) B part tree nodes more next p q wrong = (nodes, more, next, p, q, wrong)
-goes_wrong _ B part tree nodes more next p q wrong = absurd (no_next tree p.1)
-
-last_less : (nodes : List Node) (first : Node) (more : List Node) → AreInOrder (nodes ++ first ∷ more) → Follows nodes first.name
-last_less [] first more o = tt
-last_less (n ∷ []) first more o = o.1
-last_less (n ∷ k ∷ nodes) first more o = last_less (k ∷ nodes) first more o.2
-
-misplaced : (nodes behind : List Node) → ¬ MayFollow nodes behind → (behind ≡ []) ⊎ ¬ AreInOrder (nodes ++ behind)
-misplaced nodes [] wrong = inl refl
-misplaced nodes (first ∷ more) wrong = inr (λ o. wrong (last_less nodes first more o))
-
-pub part_refused : (facts : List Fact) (version : ℕ) (B : Blobs) (root : Name) (levels : List Level) (fact : Fact) (old : List Emission) (nodes : List Node) (next : Option Name) (h : PartWaits version B root levels fact old) → PartIs version B fact.name nodes next
-    → ((greatest_depth ≤ length h.level.path) × (nodes ≢ [])) ⊎ ¬ MayFollow h.level.nodes.items nodes → IsBrokenTree version B root fact.name
-part_refused facts version B root levels fact old nodes next h read why =
-    let part = subst (λ n. PartIs version B h.level.tree h.level.nodes.items n) h.goes_on h.opened.read in
-    (h.level.path, under_onward version B root h.level.path h.level.tree h.level.nodes.items fact.name h.opened.under part, h.opened.within, broken part why)
-  where
-    broken : PartIs version B h.level.tree h.level.nodes.items (Some fact.name) → ((greatest_depth ≤ length h.level.path) × (nodes ≢ [])) ⊎ ¬ MayFollow h.level.nodes.items nodes → IsBroken version B root h.level.path fact.name
-    broken part (inl deep) = inr (inl (nodes, part_lists version B fact.name nodes next read, deep.1, deep.0))
-    broken part (inr wrong) = inr (inr (h.level.tree, h.opened.under, goes_wrong version B h.level.tree fact.name h.level.nodes.items nodes next part read (misplaced h.level.nodes.items nodes wrong)))
 
 -- what is left of a list past its end
 drop_past : (xs : List Name) (i : ℕ) → length xs ≤ i → drop i xs ≡ []
@@ -445,14 +421,6 @@ module _ (facts : List Fact) (version : ℕ) (B : Blobs) (root : Name) (levels :
       let part = part_more facts B h.size sent h.content h.bytes bytes fact h.part h.asked least among named long in
       let asked : slice_get h.content (sent + 1) ≡ Some b.0 = ap (λ ns. slice_get ns (sent + 1)) (sym same) ∙ ap (λ i. slice_get content i) (sym count) ∙ b.2 in
       dropped_place facts h.content part.left (sent + 1) b.0 part.sums asked b.3
-
--- a tree that isn't one by its text, or no part
-pub tree_refused : (version : ℕ) (B : Blobs) (root : Name) (levels : List Level) (onward : Bool) (fact : Fact) (old : List Emission) (x : List ℕ) → TreeWaitsBy onward version B root levels fact old → B BlobKind.Tree x
-    → naming.name x ≡ fact.name → IsNoText version x → IsBrokenTree version B root fact.name
-tree_refused version B root levels true fact old x h among named none =
-    let part = subst (λ n. PartIs version B h.level.tree h.level.nodes.items n) h.goes_on h.opened.read in
-    (h.level.path, under_onward version B root h.level.path h.level.tree h.level.nodes.items fact.name h.opened.under part, h.opened.within, inl (x, among, named, none))
-tree_refused version B root levels false fact old x h among named none = (h.0, h.2, h.3, inl (x, among, named, none))
 
 -- a level in the place of the last one
 pub set_last : (above : List Level) (last level : Level) → slice_set (above ++ last ∷ []) (length above) level ≡ above ++ level ∷ []

@@ -79,6 +79,10 @@ module _ (version : ℕ) (B : Blobs) (root : Name) (emitted : List Emission) whe
         whole = order;
       }
 
+  pub own_path : (levels : List Level) (name : Name) (path : List (List ℕ)) (leads : LeadsOn version B root root [] [] levels name path (rebuilt emitted)) (few : length path ≤ greatest_depth) (order : Follow false emitted false) → (own_at levels name path leads few order).path ≡ path
+  unfolding own_at
+  own_path levels name path leads few order = sym (leads_down version B root root [] [] levels name path (rebuilt emitted) leads).below
+
   module _ (levels : List Level) (level : Level) (first : Name) (before inside : List Entry) (leads : LeadsOn version B root root [] [] levels first level.path before) (order : Follow false emitted false) where
     -- to a part, the next one comes behind it
     pub further_at : (name : Name) → IsOpenLevel version B root first level.tree level.path level.nodes.items level.next (length level.nodes.items) inside → level.next ≡ Some name → rebuilt emitted ≡ before ++ inside
@@ -106,6 +110,16 @@ module _ (version : ℕ) (B : Blobs) (root : Name) (emitted : List Emission) whe
           whole = order;
         }
 
+    pub further_path : (name : Name) (o : IsOpenLevel version B root first level.tree level.path level.nodes.items level.next (length level.nodes.items) inside) (on : level.next ≡ Some name) (whole : rebuilt emitted ≡ before ++ inside)
+        → (further_at name o on whole).path ≡ level.path
+    unfolding further_at
+    further_path name o on whole = sym (leads_down version B root root [] [] levels first level.path before leads).below
+
+    pub further_nodes : (name : Name) (o : IsOpenLevel version B root first level.tree level.path level.nodes.items level.next (length level.nodes.items) inside) (on : level.next ≡ Some name) (whole : rebuilt emitted ≡ before ++ inside)
+        → nodes_in (further_at name o on whole).parts ≡ nodes_in o.parts ++ level.nodes.items
+    unfolding further_at
+    further_nodes name o on whole = nodes_push_part o.parts level.nodes.items
+
     -- to a file that is next of a part
     pub file_at : (at size : ℕ) (content : List Name) (node : Node) → IsOpenLevel version B root first level.tree level.path level.nodes.items level.next at inside → slice_get level.nodes.items at ≡ Some node → node.what ≡ NodeKind.File size content
         → rebuilt emitted ≡ before ++ inside → IsNextFile version B root emitted first node.name size content
@@ -131,7 +145,7 @@ module _ (facts : List Fact) (version : ℕ) (B : Blobs) (root : Name) (levels :
   pub further_next : PartWaits version B root levels fact emitted → Follow false emitted false → IsFurtherTree version B root emitted fact.name
   further_next w order = further_at version B root emitted w.above w.level w.first w.before w.inside w.leads order fact.name w.opened w.goes_on w.whole
 
-  pub tree_next : (onward : Bool) → TreeWaitsBy onward version B root levels fact emitted → Follow false emitted false → IsOwnTree version B root emitted fact.name ⊎ IsFurtherTree version B root emitted fact.name
+  tree_next : (onward : Bool) → TreeWaitsBy onward version B root levels fact emitted → Follow false emitted false → IsOwnTree version B root emitted fact.name ⊎ IsFurtherTree version B root emitted fact.name
   tree_next true w order = inr (further_next w order)
   tree_next false w order = inl (own_next w order)
 

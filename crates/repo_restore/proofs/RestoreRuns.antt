@@ -31,7 +31,7 @@ use Rattle.repo_session.specs.Rebuilding.{rebuilt, Follow}
 use Rattle.repo_session.specs.Talks.{Talk, trace_of, given_in}
 use Rattle.repo_session.specs.Told.{AskedToPut}
 use Rattle.repo_session.specs.Blobs.{IsBadPart, range_of}
-use Rattle.repo_session.specs.Traces.{Trace, Exchanged, Lists, ReadFact}
+use Rattle.repo_session.specs.Traces.{Trace, Exchanged, Lists, ReadFact, emitted_in}
 use Rattle.repo_session.proofs.Cataloguing.{fact_stays}
 use Rattle.repo_session.proofs.Causes.{part_good, range_length}
 use Rattle.repo_session.proofs.Concluding.{calm_of, either, ends_well, puts_none, reads_first, suits_either}
@@ -52,6 +52,7 @@ use Rattle.repo_restore.specs.Restoring.{Wish, restore_task, Sums, IsUneven, IsB
 use Rattle.repo_restore.proofs.Firsts.{first_is_of_all}
 use Rattle.repo_restore.proofs.Advancing.{only_reads}
 use Rattle.repo_session.proofs.KindReads.{kind_reads}
+use Rattle.repo_restore.proofs.Refusing.{broken_in_place}
 use Rattle.repo_restore.proofs.Replied.{begun_of}
 
 -- ---- nothing changes
@@ -105,7 +106,7 @@ list_ends who from to failed talk outcome fit versions low ran few is =
 
 broken_next : (es : Trace) (version : ℕ) (root : Name) (path : List (List ℕ)) (tree : Name) → IsBrokenNext es version root path tree → IsBroken version (Received es) root path tree
 broken_next [] version root path tree h = absurd h
-broken_next (e ∷ es) version root path tree h = h.0
+broken_next (e ∷ es) version root path tree h = broken_in_place version (Received (e ∷ es)) root (emitted_in es) path tree h.2
 
 module _ (w : Wish) (from : Store) (sound : IsSound from.objects) (agree : Agree (IsHeld from.objects) (IsHeld from.objects)) (talk : Talk) (to : Store) (o : Obeys (restore_task w) (RestoreAllows w.snapshot) (RestoreGives w.snapshot) (trace_of talk))
     (h : Led from talk to) where

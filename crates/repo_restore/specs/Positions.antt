@@ -1,4 +1,4 @@
--- Where a restore stands in its snapshot's tree, and which blob comes next behind what was given out.
+-- Where a restore stands in its snapshot's tree, which blob comes next behind what was given out, and where a tree that does is broken.
 use Rattle.std.specs.Prelude.{◌≡◌, ◌≢◌, ◌<◌, ◌≤◌, ◌⊎◌, ◌++◌, ◌∷◌, [], ⊤, ℕ, zero, suc, List, length, flat_map, Some}
 use Rattle.repo_name.specs.Naming as naming
 use Rattle.repo_name.specs.declared.kinds.BlobKind.{BlobKind}
@@ -6,11 +6,12 @@ use Rattle.repo_name.specs.declared.names.Name.{Name}
 use Rattle.repo_tree.specs.declared.entries.Entry.{Entry}
 use Rattle.repo_tree.specs.declared.nodes.Node.{Node}
 use Rattle.repo_tree.specs.declared.nodes.NodeKind.{NodeKind}
-use Rattle.repo_tree.specs.Parts.{Blobs, IsPart}
+use Rattle.repo_tree.specs.Parts.{Blobs, IsPart, ListsBy}
 use Rattle.repo_tree.specs.Spelling.{NodesSpell, Spells, greatest_depth, dir_entry}
 use Rattle.repo_tree.specs.TreeText.{AreInOrder}
 use Rattle.repo_session.specs.declared.emissions.Emission.{Emission}
 use Rattle.repo_session.specs.Rebuilding.{rebuilt, AreWhole}
+use Rattle.repo_session.specs.Trees.{IsNoTree}
 use Rattle.repo_restore.specs.Beginnings.{HasFirstNodes}
 
 -- ---- the parts of a directory
@@ -123,3 +124,19 @@ pub record IsNextFile (version : ℕ) (B : Blobs) (root : Name) (emitted : List 
 abbrev pub IsNextBlob : ℕ → Blobs → Name → List Emission → BlobKind → Name → Type 0
 IsNextBlob version B root emitted BlobKind.Tree name = IsOwnTree version B root emitted name ⊎ IsFurtherTree version B root emitted name
 IsNextBlob version B root emitted BlobKind.Content name = IsNextContent version B root emitted name
+
+-- ---- the tree that comes next, where it is broken
+
+-- no directory at the path has the tree, whichever of its parts it is: its bytes are no tree's text, or it has nodes where none may be
+abbrev pub IsUnfitAt : ℕ → Blobs → List (List ℕ) → Name → Type 0
+IsUnfitAt version B path tree = IsNoTree version B tree ⊎ ((nodes : List Node) × ListsBy version B tree nodes × (nodes ≢ []) × (greatest_depth ≤ length path))
+
+-- no directory goes on in the tree behind these nodes: it has none, or names don't ascend over all
+abbrev pub IsWrongBehind : ℕ → Blobs → List Node → Name → Type 0
+IsWrongBehind version B before tree = (nodes : List Node) × ListsBy version B tree nodes × ((nodes ≡ []) ⊎ ¬ AreInOrder (before ++ nodes))
+
+-- The tree is broken just where it comes next behind what was given out: as the own one of the directory at this path it is unfit there; or as the one in which
+-- that directory goes on behind some parts it is unfit, or wrong behind their nodes.
+abbrev pub IsBrokenInPlace : ℕ → Blobs → Name → List Emission → List (List ℕ) → Name → Type 0
+IsBrokenInPlace version B root emitted path tree = ((own : IsOwnTree version B root emitted tree) × (own.path ≡ path) × IsUnfitAt version B path tree)
+    ⊎ ((further : IsFurtherTree version B root emitted tree) × (further.path ≡ path) × (IsUnfitAt version B path tree ⊎ IsWrongBehind version B (nodes_in further.parts) tree))

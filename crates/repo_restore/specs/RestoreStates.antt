@@ -96,7 +96,7 @@ RestoreHeeds old ask say step new = (holding : Holding) → RestoreHeedsFor hold
 abbrev pub RestoreStays : Restore → Restore → Type 0
 RestoreStays old new = (new.given ≡ old.given) × ((ask : Ask) (es : Trace) → KnowsRestore old ask es → KnowsRestore new ask es)
 
--- the tree that the newest exchange brought was next, and can't be restored
+-- the tree that the newest exchange brought was next, and can't be restored there
 abbrev pub IsRefused : Trace → ℕ → Name → End → Type 0
 IsRefused es version root end = (tree : Name) × (path : List (List ℕ)) × (end ≡ End.BadObject Thing.Tree tree) × Under version (Received es) root path tree × (length path ≤ greatest_depth) × IsBrokenNext es version root path tree
 

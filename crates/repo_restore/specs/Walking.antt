@@ -22,9 +22,9 @@ use Rattle.repo_restore.specs.declared.walks.Walk.{Walk}
 use Rattle.repo_restore.specs.declared.steps.Stop.{Stop}
 use Rattle.repo_index.specs.Lookups.{IsLeast}
 use Rattle.repo_restore.specs.Nodes.{WaitsFor, DirBegins, FileBegins}
-use Rattle.repo_session.specs.Trees.{Under, IsBroken}
+use Rattle.repo_session.specs.Trees.{Under}
 use Rattle.repo_restore.specs.Beginnings.{SpellsFirst}
-use Rattle.repo_restore.specs.Positions.{ComesBehind, ArePiecesOf, IsNextFile, IsNextBlob}
+use Rattle.repo_restore.specs.Positions.{ComesBehind, ArePiecesOf, IsNextFile, IsNextBlob, IsBrokenInPlace}
 use Rattle.repo_restore.specs.Restoring.{counted, Sums}
 use Rattle.repo_session.specs.Catalogs.{IsBlobNowhere}
 use Rattle.repo_restore.specs.Walks.{PartIs, LacksFirst, WalkGives, is_open, WalkGave, WalkStopped, IsOpenLevel, DirectoryIsBegun, IsFile, LeadsOn, IsWriting, AtOpen}
@@ -88,9 +88,9 @@ pub record IsUnevenIn (facts : List Fact) (version : ℕ) (B : Blobs) (root : Na
   pub sums : Sums facts content total
   pub other : total ≢ size
 
--- a path that isn't too long leads to a tree that no directory has
-abbrev pub IsBrokenTree : ℕ → Blobs → Name → Name → Type 0
-IsBrokenTree version B root tree = (path : List (List ℕ)) × Under version B root path tree × (length path ≤ greatest_depth) × IsBroken version B root path tree
+-- a path that isn't too long leads to a tree that is broken where it comes next behind what was given out
+abbrev pub IsBrokenTree : ℕ → Blobs → Name → List Emission → Name → Type 0
+IsBrokenTree version B root emitted tree = (path : List (List ℕ)) × Under version B root path tree × (length path ≤ greatest_depth) × IsBrokenInPlace version B root emitted path tree
 
 -- the blob that has no place is the first that is looked up behind what was given out: the tree that comes next, or a blob of the file that does
 abbrev pub LacksBlob : BlobKind → List Fact → ℕ → Blobs → Name → List Emission → Name → Type 0
@@ -178,10 +178,10 @@ pub record WalkWaits (facts : List Fact) (version : ℕ) (B : Blobs) (root : Nam
   pub waits : WaitsByKind fact.kind facts version B root levels sent onward fact emitted
   pub order : Follow false emitted (is_open fact.kind)
 
--- the tree that came, if one did, can't be taken: it was next, and no directory has it; nothing more is given out
+-- the tree that came, if one did, can't be taken: it is broken where it was next; nothing more is given out
 abbrev pub RefusesTree : Option Name → ℕ → Blobs → Name → List Emission → List Emission → End → Type 0
 RefusesTree None version B root old out end = ⊥
-RefusesTree (Some tree) version B root old out end = (end ≡ End.BadObject Thing.Tree tree) × (out ≡ []) × IsNextBlob version B root old BlobKind.Tree tree × IsBrokenTree version B root tree
+RefusesTree (Some tree) version B root old out end = (end ≡ End.BadObject Thing.Tree tree) × (out ≡ []) × IsBrokenTree version B root old tree
 
 -- what comes of a step of a walk, on the blob that came, if one did
 abbrev pub TurnGives : Option Name → List Fact → ℕ → Blobs → Name → List Level → ℕ → Bool → ℕ → List Emission → List Emission → Turn → Type 0

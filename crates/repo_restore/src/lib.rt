@@ -14,13 +14,13 @@
 //! each file that is closed has just the bytes that a tree lists there; and all this holds over any replies
 //! ([`restored_is_what_came`], [`given_is_what_came`], [`given_is_a_beginning`], [`closed_is_whole`]). A blob that no index
 //! gives, a file whose blobs haven't its size and a tree that no directory has are told only where all that comes before was
-//! given out: it is the blob, the file or the tree that comes next, and of a file's blobs the first missing one. Not promised: that a
-//! store answers, or that a list or a restore ends well.
+//! given out: it is the blob, the file or the tree that comes next, of a file's blobs the first missing one, and the tree is
+//! broken just there. Not promised: that a store answers, or that a list or a restore ends well.
 //!
 //! The definitions stand in `specs/`: `Listing` (when a list may be told), `Beginnings` (what a tree spells first),
-//! `Positions` (which blob comes next), `Restoring` (what a restore may ask, give out and tell, over the trees of repo_session's
-//! `Trees`); and what is known on the way: `ListStates`, `Walks`, `Nodes`, `Walking` and `Moves` (where a walk over trees stands,
-//! what its steps give, and how each brings it on), `RestoreStates`.
+//! `Positions` (which blob comes next, and where a tree that does is broken), `Restoring` (what a restore may ask, give out and
+//! tell, over the trees of repo_session's `Trees`); and what is known on the way: `ListStates`, `Walks`, `Nodes`, `Walking` and
+//! `Moves` (where a walk over trees stands, what its steps give, and how each brings it on), `RestoreStates`.
 #![tactic(auto)]
 
 mod laws;

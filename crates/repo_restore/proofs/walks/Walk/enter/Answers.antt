@@ -1,4 +1,4 @@
-use Rattle.std.proofs.Common.{false, ◌≡◌, ◌≢◌, ◌≤◌, ◌<◌, ◌⊎◌, ◌++◌, ◌∷◌, [], ℕ, List, Some, length, refl, sym, subst, inl, inr, ◌∙◌}
+use Rattle.std.proofs.Common.{false, ◌≡◌, ◌≢◌, ◌≤◌, ◌<◌, ◌⊎◌, ◌++◌, ◌∷◌, [], ℕ, List, Some, length, refl, sym, subst, inr, ◌∙◌}
 use Rattle.repo_name.specs.declared.kinds.BlobKind.{BlobKind}
 use Rattle.repo_name.specs.declared.names.Name.{Name}
 use Rattle.repo_tree.specs.declared.nodes.Node.{Node}
@@ -6,11 +6,9 @@ use Rattle.repo_tree.specs.Spelling.{greatest_depth}
 use Rattle.repo_session.specs.declared.emissions.Emission.{Emission}
 use Rattle.repo_restore.specs.declared.nodes.Level.{Level}
 use Rattle.repo_session.specs.Received.{Received}
-use Rattle.repo_session.specs.Trees.{Under}
-use Rattle.repo_restore.specs.Walking.{WaitsByKind, TreeWaitsBy, StopsAt, Turns}
+use Rattle.repo_restore.specs.Walking.{IsBrokenTree, WaitsByKind, TreeWaitsBy, StopsAt, Turns}
 use Rattle.repo_restore.specs.Walks.{PartIs, AtOpen, is_open}
-use Rattle.repo_restore.specs.Positions.{IsOwnTree}
-use Rattle.repo_restore.proofs.Positioning.{own_next}
+use Rattle.repo_restore.proofs.Refusing.{own_refused}
 use Rattle.repo_restore.proofs.Flows.{gave_none}
 use Rattle.repo_restore.proofs.Standing.{stopped_none}
 use Rattle.repo_session.specs.Rebuilding.{rebuilt, Follow}
@@ -29,10 +27,10 @@ returns-then-is_too_deep-clause-ok c = λ gs version root fact old h first k n t
     let deep = c.is_too_deep.ensures.yes c.if-is_too_deep.true in
     let D : List (List ℕ) → Type 0 = λ p. greatest_depth ≤ length p in
     let N : List Node → Type 0 = λ ns. ns ≢ [] in
-    let U : Name → Type 0 = λ m. Under version (Received gs) root tree.0 m in
-    let next = subst (λ m. IsOwnTree version B root old m) n (own_next c.args.lookup.now version B root w.levels.items w.sent fact old tree (subst (λ kind. Follow false old (is_open kind)) k h.order)) in
-    let broken = inr (inl (c.args.nodes.items, part_lists version (Received gs) c.args.tree c.args.nodes.items c.args.next t, subst N c.as_slice.ensures.value deep.1, subst D at deep.0)) in
-    (inr (refl, none, inl next, (tree.0, subst U n tree.2, tree.3, broken)), stopped_none c.args.lookup.now version (Received gs) root w.levels.items w.sent w.onward w.entries fact old _ none h)
+    let T : Name → Type 0 = λ m. PartIs version B m c.args.nodes.items c.args.next in
+    let unfit = inr (c.args.nodes.items, part_lists version B fact.name c.args.nodes.items c.args.next (subst T (sym n) t), subst N c.as_slice.ensures.value deep.1, subst D at deep.0) in
+    let broken = own_refused version B root w.levels.items fact old (subst (λ kind. Follow false old (is_open kind)) k h.order) tree unfit in
+    (inr (refl, none, subst (λ m. IsBrokenTree version B root old m) n broken), stopped_none c.args.lookup.now version B root w.levels.items w.sent w.onward w.entries fact old _ none h)
 
 pub returns-in-Ok-clause-ok : goal.returns-in-Ok-clause-ok
 returns-in-Ok-clause-ok c = λ gs version root fact old h first k n t none.

@@ -8,12 +8,11 @@ use Rattle.repo_restore.specs.declared.nodes.Level.{Level}
 use Rattle.repo_session.specs.Received.{Received}
 use Rattle.repo_restore.specs.Walking.{MayFollow, IsBrokenTree, WaitsByKind, TreeWaitsBy, StopsAt, Turns}
 use Rattle.repo_restore.specs.Walks.{PartIs, AtOpen, is_open}
-use Rattle.repo_restore.specs.Positions.{IsNextBlob}
-use Rattle.repo_restore.proofs.Positioning.{further_next}
 use Rattle.repo_restore.proofs.Flows.{gave_none}
 use Rattle.repo_restore.proofs.Standing.{stopped_none}
 use Rattle.repo_session.specs.Rebuilding.{rebuilt, Follow}
-use Rattle.repo_restore.proofs.Passing.{entered_part, part_refused, path_deep, put_twice}
+use Rattle.repo_restore.proofs.Passing.{entered_part, path_deep, put_twice}
+use Rattle.repo_restore.proofs.Refusing.{part_refused}
 use Rattle.repo_restore.specs.Moves.{HasNoneBehind}
 use Rattle.repo_restore.proofs.Moving.{tree_moves, none_replaced, nodes_move}
 use Rattle.repo_restore.proofs.walks.Walk.enter_part.Goals as goal
@@ -27,10 +26,10 @@ returns-then-is_too_deep-clause-ok c = λ gs version root fact old h onward k n 
     let deep = c.is_too_deep.ensures.yes c.if-is_too_deep.true in
     let N : List Node → Type 0 = λ ns. ns ≢ [] in
     let T : Name → Type 0 = λ m. PartIs version (Received gs) m c.args.nodes.items c.args.next in
-    let further = further_next c.args.lookup.now version (Received gs) root w.levels.items w.sent fact old p (subst (λ kind. Follow false old (is_open kind)) k h.order) in
-    let D : Name → Type 0 = λ m. IsNextBlob version (Received gs) root old BlobKind.Tree m × IsBrokenTree version (Received gs) root m in
-    let both = subst D n (inr further, part_refused c.args.lookup.now version (Received gs) root w.levels.items fact old c.args.nodes.items c.args.next p (subst T (sym n) t) (inl (path_deep c.in_ok-path.path p.level.path c.args.nodes.items at (deep.0, subst N c.as_slice.ensures.value deep.1)))) in (
-      inr (refl, none, both.0, both.1),
+    let order = subst (λ kind. Follow false old (is_open kind)) k h.order in
+    let D : Name → Type 0 = λ m. IsBrokenTree version (Received gs) root old m in
+    let broken = subst D n (part_refused version (Received gs) root w.levels.items fact old order c.args.nodes.items c.args.next p (subst T (sym n) t) (inl (path_deep c.in_ok-path.path p.level.path c.args.nodes.items at (deep.0, subst N c.as_slice.ensures.value deep.1)))) in (
+      inr (refl, none, broken),
       stopped_none c.args.lookup.now version (Received gs) root w.levels.items w.sent w.onward w.entries fact old _ none h,
     )
 
@@ -40,14 +39,14 @@ returns-then-not-come_behind-clause-ok c = λ gs version root fact old h onward 
     let K : BlobKind → Type 0 = λ kind. WaitsByKind kind c.args.lookup.now version (Received gs) root w.levels.items w.sent w.onward fact old in
     let p = subst (λ o. TreeWaitsBy o version (Received gs) root w.levels.items fact old) onward (subst K k h.waits) in
     let T : Name → Type 0 = λ m. PartIs version (Received gs) m c.args.nodes.items c.args.next in
-    let further = further_next c.args.lookup.now version (Received gs) root w.levels.items w.sent fact old p (subst (λ kind. Follow false old (is_open kind)) k h.order) in
-    let D : Name → Type 0 = λ m. IsNextBlob version (Received gs) root old BlobKind.Tree m × IsBrokenTree version (Received gs) root m in
+    let order = subst (λ kind. Follow false old (is_open kind)) k h.order in
+    let D : Name → Type 0 = λ m. IsBrokenTree version (Received gs) root old m in
     let wrong : ¬ MayFollow p.level.nodes.items c.args.nodes.items = λ may. (
     let yes = (c.come_behind.ensures.may p.above p.level (c.as_slice-2.ensures.value ∙ p.levels_are)).1 (subst (MayFollow p.level.nodes.items) (sym c.as_slice-3.ensures.value) may) in
     let no = c.if-not-come_behind.true in
     absurd (cc)) in
-    let both = subst D n (inr further, part_refused c.args.lookup.now version (Received gs) root w.levels.items fact old c.args.nodes.items c.args.next p (subst T (sym n) t) (inr wrong)) in (
-      inr (refl, none, both.0, both.1),
+    let broken = subst D n (part_refused version (Received gs) root w.levels.items fact old order c.args.nodes.items c.args.next p (subst T (sym n) t) (inr wrong)) in (
+      inr (refl, none, broken),
       stopped_none c.args.lookup.now version (Received gs) root w.levels.items w.sent w.onward w.entries fact old _ none h,
     )
 

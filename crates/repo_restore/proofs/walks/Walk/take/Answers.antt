@@ -5,8 +5,7 @@ use Rattle.repo_session.specs.Received.{Received}
 use Rattle.repo_restore.specs.Walking.{WaitsByKind}
 use Rattle.repo_session.specs.Rebuilding.{Follow}
 use Rattle.repo_restore.specs.Walks.{is_open}
-use Rattle.repo_restore.proofs.Passing.{tree_refused}
-use Rattle.repo_restore.proofs.Positioning.{tree_next}
+use Rattle.repo_restore.proofs.Refusing.{tree_refused}
 use Rattle.repo_restore.proofs.Standing.{stopped_none}
 use Rattle.repo_restore.proofs.Trees.{text_part}
 use Rattle.repo_restore.proofs.Moving.{content_gives, text_moves}
@@ -26,8 +25,8 @@ returns-in_ok-check_fault-in-Err-clause-ok c = λ gs root old h received named l
     let R : BlobKind → Type 0 = λ kind. Received gs kind c.args.bytes.now in
     let unread = c.in-Err.ensures.none c.in_ok-check_fault-in-Err.ensures.fault in
     let waits = subst K c.in-Tree.is h.waits in
-    let next = tree_next c.args.lookup.now version (Received gs) root w.levels.items w.sent c.args.fact old w.onward waits (subst (λ kind. Follow false old (is_open kind)) c.in-Tree.is h.order) in
-    (inr (refl, none, next, tree_refused version (Received gs) root w.levels.items w.onward c.args.fact old c.args.bytes.now waits (subst R c.in-Tree.is received) named unread), stopped_none c.args.lookup.now version (Received gs) root w.levels.items w.sent w.onward w.entries c.args.fact old _ none h)
+    let order = subst (λ kind. Follow false old (is_open kind)) c.in-Tree.is h.order in
+    (inr (refl, none, tree_refused version (Received gs) root w.levels.items c.args.fact old order w.onward c.args.bytes.now waits (subst R c.in-Tree.is received) named unread), stopped_none c.args.lookup.now version (Received gs) root w.levels.items w.sent w.onward w.entries c.args.fact old _ none h)
 
 pub returns-in-Content-clause-moves : goal.returns-in-Content-clause-moves
 returns-in-Content-clause-moves c = content_gives c.args.version c.args.fact c.args.bytes.now c.args.self.now c.take_blob.new.out.items c.take_blob.new.self c.take_blob.result c.take_blob.ensures.moves
