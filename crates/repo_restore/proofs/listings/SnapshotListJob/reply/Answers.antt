@@ -7,11 +7,9 @@ use Rattle.repo_session.specs.Listings.{IsSnapshotListing, KnowsSnapshots}
 use Rattle.repo_session.specs.Readings.{PartSteps}
 use Rattle.repo_session.specs.Traces.{Exchange, silent}
 use Rattle.repo_session.specs.Versions.{upto}
-use Rattle.repo_session.proofs.Heeding.{heeds_follow}
 use Rattle.repo_session.proofs.KindReads.{due_snapshot}
 use Rattle.repo_session.proofs.Parting.{part_heeds, part_turns}
 use Rattle.repo_restore.specs.Listing.{list_rule}
-use Rattle.repo_restore.specs.ListStates.{KnowsList}
 use Rattle.repo_restore.proofs.listings.SnapshotListJob.reply.Goals as goal
 
 pub returns-in-All-clause-steps : goal.returns-in-All-clause-steps
