@@ -3,7 +3,7 @@
 //! [`Trees`] walks over the trees of some roots, depth first, and asks for each tree once. Below the root of a snapshot of
 //! version 2 directories go on along `next`, at their own depth; below another each is one tree. The walk looks at a tree
 //! again where it is reached in the other way, or at another depth, since trees stand at paths of at most 100 components,
-//! and one that does at one path may be too deep at another; that takes neither a request nor memory.
+//! and one that does at one path may be too deep at another; that takes no request.
 //!
 //! Promised: at the end each tree that the roots reach was looked at, in each way and at each depth in which it is reached,
 //! and no other was; and a tree that breaks its directory was told. Not promised: that a tree's blob is there, or can be

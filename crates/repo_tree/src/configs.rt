@@ -24,7 +24,7 @@ use std::alloc::{AllocError, Global};
 /// What is fixed when a repository is made.
 #[derive(Clone, Copy, Debug, PartialEq, Eq)]
 pub struct Config {
-    /// The version of the formats, which is 1.
+    /// The version of the formats, 1 or 2.
     pub version: u64,
     /// What tells the repository from others.
     pub id: Instance,

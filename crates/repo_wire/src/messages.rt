@@ -148,7 +148,7 @@ pub enum Code {
     Dead,
     /// 3: other locks exclude this one.
     Busy,
-    /// 4: a deletion wants an exclusive lock.
+    /// 4: a deletion or an upgrade wants an exclusive lock.
     NotExclusive,
     /// 5: there is no such object.
     Missing,
