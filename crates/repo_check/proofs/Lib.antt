@@ -35,4 +35,5 @@ pub mod Again
 pub mod CheckSteps
 pub mod SoundFinds
 pub mod LoneChecks
+pub mod Counting
 pub mod Replied

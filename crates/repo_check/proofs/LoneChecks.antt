@@ -40,7 +40,7 @@ use Rattle.repo_check.specs.Answers as answers_of
 use Rattle.repo_check.specs.Answers.{Answer, GivesFact, LiesAt}
 use Rattle.repo_check.specs.Checking.{check_task, CheckAllows, CheckGives, CheckConcludes, AreAnswers, IsAtFault, CameFor, IsRanged, IsClean}
 use Rattle.repo_check.specs.Laws as laws
-use Rattle.repo_check.specs.Laws.{AreObjects}
+use Rattle.repo_check.specs.Laws.{AreObjects, HasNoClash}
 use Rattle.repo_check.specs.Laws.IsSpoken.{of_object, of_tree, of_pack}
 use Rattle.repo_check.specs.LoneLaws.{AreStoredApart, CheckChangesNothing, CheckEndsWell, CleanIsOfSound, IsCleanOrMemory}
 use Rattle.repo_check.proofs.Finding.{lies_one}
@@ -153,7 +153,7 @@ module _ (who : Asker) (from : Store) where
           let answer : a ≡ record { name = n; bytes = Some x } = λ i. record { name = name i; bytes = (is ∙ ap Some one) i } in
           subst (λ (b : Answer). Contains (answers.objects k) b) answer among
 
-      are : AreObjects answers from.objects
+      pub are : AreObjects answers from.objects
       are k n x = (
         λ there.
             let got = received.objects k in
@@ -165,7 +165,7 @@ module _ (who : Asker) (from : Store) where
       )
 
       -- each object that was listed came
-      given : (k : Kind) (a : Answer) → Contains (answers.objects k) a → (x : List ℕ) × (a.bytes ≡ Some x)
+      pub given : (k : Kind) (a : Answer) → Contains (answers.objects k) a → (x : List ℕ) × (a.bytes ≡ Some x)
       given k a c = by a.bytes refl
         where
           there : (x : List ℕ) × (from.objects k a.name ≡ Some x)
@@ -225,19 +225,26 @@ module _ (who : Asker) (from : Store) where
           let found = shares.ranged place.pack place.offset place.length x t.1.2 in
           part (fact_of Tree n place) found.0 x t.1.1.given (first Kind.Pack place.pack found.0 found.1) found.2
 
-      clean_sound : AreStoredApart from → IsSound from.objects
-      clean_sound apart = well_is_sound clean.answers from.objects clean.well (are clean.answers clean.received) (λ x y a b name. apart x y (is_spoken x a) (is_spoken y b) name)
+      pub no_clash : AreStoredApart from → HasNoClash clean.answers
+      no_clash apart x y a b name = apart x y (is_spoken x a) (is_spoken y b) name
 
-  clean_before : (talk : Talk) (to : Store) → Keeps (trace_of talk) → Led from talk to → AreStoredApart from → (snapshots indexes packs blobs : ℕ) → IsClean (before_unlock (trace_of talk)) snapshots indexes packs blobs → IsSound from.objects
-  clean_before [] to o h apart snapshots indexes packs blobs clean = clean_sound [] to o h snapshots indexes packs blobs clean apart
-  clean_before (turn ∷ talk) to o h apart snapshots indexes packs blobs clean = ⊎_elim
-      (λ whole. clean_sound (turn ∷ talk) to o h snapshots indexes packs blobs whole apart)
-      (λ older. clean_sound talk h.0 o.3 h.1 snapshots indexes packs blobs older apart)
+      clean_sound : AreStoredApart from → IsSound from.objects
+      clean_sound apart = well_is_sound clean.answers from.objects clean.well (are clean.answers clean.received) (no_clash apart)
+
+  -- what follows where a check is clean follows also where it gave back its lock after that
+  pub clean_before : (P : Type 0) (snapshots indexes packs blobs : ℕ)
+      → ((talk : Talk) (to : Store) → Keeps (trace_of talk) → Led from talk to → IsClean (trace_of talk) snapshots indexes packs blobs → P)
+      → (talk : Talk) (to : Store) → Keeps (trace_of talk) → Led from talk to → IsClean (before_unlock (trace_of talk)) snapshots indexes packs blobs → P
+  clean_before P snapshots indexes packs blobs by [] to o h clean = by [] to o h clean
+  clean_before P snapshots indexes packs blobs by (turn ∷ talk) to o h clean = ⊎_elim
+      (λ whole. by (turn ∷ talk) to o h whole)
+      (λ older. by talk h.0 o.3 h.1 older)
       (either (λ es. IsClean es snapshots indexes packs blobs) turn.request.ask (trace_of (turn ∷ talk)) (trace_of talk) clean)
 
 pub clean_is_of_sound : CleanIsOfSound
 clean_is_of_sound who from to failed failing talk next snapshots indexes packs blobs apart ran is =
-    clean_before who from talk to is.obeys (led from talk to ran.run) apart snapshots indexes packs blobs (is.concluded (Outcome.Clean snapshots indexes packs blobs) refl).0
+    clean_before who from (IsSound from.objects) snapshots indexes packs blobs (λ those end o h clean. clean_sound who from those end o h snapshots indexes packs blobs clean apart)
+    talk to is.obeys (led from talk to ran.run) (is.concluded (Outcome.Clean snapshots indexes packs blobs) refl).0
 
 -- ---- how a check ends
 

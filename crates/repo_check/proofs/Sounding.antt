@@ -41,7 +41,7 @@ module _ (answers : Gathered) (objects : Objects) (well : AreWell answers) (are 
   abbrev T : Blobs
   T = TreesOf answers
 
-  there : (k : Kind) (n : Name) (x : List ℕ) → Came (answers.objects k) n x → objects k n ≡ Some x
+  pub there : (k : Kind) (n : Name) (x : List ℕ) → Came (answers.objects k) n x → objects k n ≡ Some x
   there k n x came = (are k n x).1 came.among
 
   object_well : (k : Kind) (n : Name) (x : List ℕ) → objects k n ≡ Some x → (naming.name x ≡ n) × IsFitting answers k x
@@ -50,7 +50,7 @@ module _ (answers : Gathered) (objects : Objects) (well : AreWell answers) (are 
       let same : w.0 ≡ x = let p = w.1 in cc in
       (ap naming.name (sym same) ∙ w.2, subst (λ y. IsFitting answers k y) same w.3)
 
-  came : (k : Kind) (n : Name) (x : List ℕ) → objects k n ≡ Some x → Came (answers.objects k) n x
+  pub came : (k : Kind) (n : Name) (x : List ℕ) → objects k n ≡ Some x → Came (answers.objects k) n x
   came k n x here = record { among = (are k n x).0 here; named = (object_well k n x here).0 }
 
   -- ---- what indexes give is held
@@ -102,13 +102,13 @@ module _ (answers : Gathered) (objects : Objects) (well : AreWell answers) (are 
       let given : GivesFact answers h.fact = record { index = h.index; text = h.text; came = came Kind.Index h.index h.text h.listed; says = h.says } in
       of_pack h.fact h.pack given ((are Kind.Pack h.fact.place.pack h.pack).0 h.there) h.stands
 
-  held_apart : AreHeldApart objects
+  pub held_apart : AreHeldApart objects
   held_apart k x y h g same = apart x y (held_spoken k x h) (held_spoken k y g) same
 
   -- ---- trees that are reached
 
   -- a tree that came is held
-  grows : (k : BlobKind) (x : List ℕ) → T k x → H k x
+  pub grows : (k : BlobKind) (x : List ℕ) → T k x → H k x
   grows k x (is, (n, place, tree, lies, len)) =
       let h = held_at (fact_of Tree n place) lies.given in
       let same : h.bytes ≡ x = apart h.bytes x h.spoken (of_tree n tree.among) (h.named ∙ sym tree.named) in
@@ -117,12 +117,12 @@ module _ (answers : Gathered) (objects : Objects) (well : AreWell answers) (are 
   agree : Agree T T
   agree k x y (is, (n, place, tree, lies, len)) (so, (m, spot, other, at, size)) name = apart x y (of_tree n tree.among) (of_tree m other.among) name
 
-  record WellAt (n : Name) : Type 0 where
+  pub record WellAt (n : Name) : Type 0 where
     pub nodes : List Node
     pub tree : IsTree T n nodes
     pub fit : IsWellTree answers n tree.text nodes
 
-  tree_well : (n : Name) → IsReachedBlob answers Tree n → WellAt n
+  pub tree_well : (n : Name) → IsReachedBlob answers Tree n → WellAt n
   tree_well n r = elim (well.blobs Tree n r) [
     | inl nowhere ↦ absurd (let p = nowhere.0 in cc)
     | inr found ↦ (let place = found.0 in let a = found.1 in let lies = found.2 in let is = found.4 in let tree = found.5 in

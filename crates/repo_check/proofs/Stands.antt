@@ -1,11 +1,12 @@
 -- The names that are reached, by the visits.
-use Rattle.std.proofs.Common.{◌≡◌, ◌∷◌, [], List, Some, None, ◌↔◌, Contains}
+use Rattle.std.proofs.Common.{◌≡◌, ◌∷◌, [], List, Option, Some, None, ◌↔◌, Contains}
 use Rattle.std.specs.List.{AllByRecursion}
 use Rattle.std.specs.List.Sorted.{IsStrictlySortedBy}
 use Rattle.std.specs.declared.cmp.Ordering.TheVariants.{Less}
-use Rattle.repo_name.specs.Naming.{name_cmp}
+use Rattle.repo_name.specs.Naming.{name_cmp, Before}
 use Rattle.repo_name.specs.declared.kinds.BlobKind.TheVariants.{Content, Tree}
 use Rattle.repo_name.specs.declared.names.Name.{Name}
+use Rattle.repo_index.specs.Order.{names_total}
 use Rattle.repo_store.specs.Pages.{NamesAscend}
 use Rattle.repo_session.specs.Traces.{Trace}
 use Rattle.repo_check.specs.Answers.{IsReachedBlob}
@@ -25,6 +26,17 @@ pub sorted_ascends : (names : List Name) → IsStrictlySortedBy name_cmp names �
 unfolding IsStrictlySortedBy
 sorted_ascends [] h = tt
 sorted_ascends (n ∷ names) h = (tt, after_first n names h.0 h.1)
+
+all_after : (n m : Name) (names : List Name) → Before n m → AllByRecursion (λ y. name_cmp m y ≡ Less) names → AllByRecursion (λ y. name_cmp n y ≡ Less) names
+all_after n m [] before h = tt
+all_after n m (x ∷ names) before h = (names_total.trans n m x before h.0, all_after n m names before h.1)
+
+-- and the other way
+pub ascends_sorted : (after : Option Name) (names : List Name) → NamesAscend after names → IsStrictlySortedBy name_cmp names
+unfolding IsStrictlySortedBy
+ascends_sorted after [] h = tt
+ascends_sorted after (n ∷ []) h = (tt, tt)
+ascends_sorted after (n ∷ m ∷ names) h = let rest = ascends_sorted (Some n) (m ∷ names) h.1 in ((h.1.0, all_after n m names h.1.0 rest.0), rest)
 
 -- ---- what is reached
 

@@ -2,10 +2,14 @@
 use Rattle.std.specs.Prelude.{◌≡◌, ◌↔◌, [], ℕ, List, Option, Some, Contains}
 use Rattle.repo_name.specs.Naming as naming
 use Rattle.repo_name.specs.Ranges.{range}
+use Rattle.repo_name.specs.declared.kinds.BlobKind.{BlobKind}
 use Rattle.repo_name.specs.declared.kinds.Kind.{Kind}
 use Rattle.repo_name.specs.declared.kinds.Thing.{Thing}
 use Rattle.repo_name.specs.declared.names.Name.{Name}
 use Rattle.repo_index.specs.declared.facts.Fact.{Fact}
+use Rattle.repo_tree.specs.SnapshotText.{IsSnapshotText}
+use Rattle.repo_tree.specs.Spelling.{Reach}
+use Rattle.repo_tree.specs.declared.snapshots.Snapshot.{Snapshot}
 use Rattle.repo_store.specs.Stores.{Objects}
 use Rattle.repo_wire.specs.declared.messages.Ask.{Ask}
 use Rattle.repo_wire.specs.declared.messages.Reply.{Reply}
@@ -15,14 +19,14 @@ use Rattle.repo_session.specs.declared.outcomes.FaultKind.{FaultKind}
 use Rattle.repo_session.specs.declared.outcomes.Outcome.{Outcome}
 use Rattle.repo_session.specs.Ends.{before_unlock}
 use Rattle.repo_session.specs.Sessions.{next_in, ended_in, who_in}
-use Rattle.repo_session.specs.Soundness.{IsSound}
+use Rattle.repo_session.specs.Soundness.{IsHeld, IsSound}
 use Rattle.repo_session.specs.Talks.{Talk, trace_of, TookEach, CameIn}
 use Rattle.repo_session.specs.Traces.{Exchanged, Trace}
 use Rattle.repo_check.specs.Findings.{IsFitting, IsMisplaced}
 use Rattle.repo_check.specs.Fitting.{FactsOfPacks, AreKnown, Fits, Misfits}
 use Rattle.repo_index.specs.IndexText.{IsIndexText}
 use Rattle.repo_index.specs.declared.facts.PackFacts.{PackFacts}
-use Rattle.repo_check.specs.Answers.{Answer, Gathered, GivesFact}
+use Rattle.repo_check.specs.Answers.{Answer, Gathered, GivesFact, IsReachedBlob}
 use Rattle.repo_check.specs.CheckStates.{FitsCheck}
 use Rattle.repo_check.specs.Checking.{IsFaultOf, IsFound, AreWell, IsClean, IsAtFault, AreAnswers}
 use Rattle.repo_session.specs.declared.sessions.Session.{Session}
@@ -51,6 +55,20 @@ WellIsSound = (answers : Gathered) (objects : Objects) → AreWell answers → A
 abbrev pub CleanIsSound : Type 0
 CleanIsSound = (es : Trace) (snapshots indexes packs blobs : ℕ) (objects : Objects) (clean : IsClean es snapshots indexes packs blobs)
     → AreObjects clean.answers objects → HasNoClash clean.answers → IsSound objects
+
+-- a snapshot among the objects reaches the pair in the blobs held
+pub record IsReachedIn (objects : Objects) (k : BlobKind) (n : Name) : Type 0 where
+  pub name : Name
+  pub text : List ℕ
+  pub snapshot : Snapshot
+  pub there : objects Kind.Snapshot name ≡ Some text
+  pub reads : IsSnapshotText text snapshot
+  pub reaches : Reach snapshot.version (IsHeld objects) snapshot.tree k n
+
+-- where a check is clean, the pairs that are reached in what came, which it counts, are just those that snapshots among the objects reach in the blobs held
+abbrev pub CleanCountsReached : Type 0
+CleanCountsReached = (es : Trace) (snapshots indexes packs blobs : ℕ) (objects : Objects) (clean : IsClean es snapshots indexes packs blobs)
+    → AreObjects clean.answers objects → HasNoClash clean.answers → (k : BlobKind) (n : Name) → IsReachedBlob clean.answers k n ↔ IsReachedIn objects k n
 
 -- one thing is found of each: that it is well, or one fault
 abbrev pub FoundOnce : Type 0

@@ -1,9 +1,9 @@
 //! What holds of what a check tells, by the definitions alone. Each function is empty, and its contract is the law.
 
-ghost use Rattle.repo_check.specs.LoneLaws.{CheckChangesNothing, CheckEndsWell, CleanIsOfSound};
+ghost use Rattle.repo_check.specs.LoneLaws.{CheckChangesNothing, CheckEndsWell, CleanIsOfSound, CleanTellsCounts};
 ghost use Rattle.repo_check.specs.Surveys.{SurveyedIsReceived, VisitsAreReached, ContentIsReached, SnapshotsAreTold, PacksAreTold, TreesAreTold, ContentIsTold};
 ghost use Rattle.repo_check.specs.Verdicts.{IndexesAreTold, PlacesAreTold};
-ghost use Rattle.repo_check.specs.Laws.{WellIsSound, CleanIsSound, FoundOnce, HeardOnce, FitsAsFound, WellHasNoFault, CleanIsWhatCame, FaultsAreWhatCame};
+ghost use Rattle.repo_check.specs.Laws.{WellIsSound, CleanIsSound, CleanCountsReached, FoundOnce, HeardOnce, FitsAsFound, WellHasNoFault, CleanIsWhatCame, FaultsAreWhatCame};
 
 /// Where all things are well in what was received, the objects received are a sound store. Premise: no two of the objects
 /// and trees received, and of the blobs in the packs, have one name.
@@ -14,6 +14,12 @@ pub fn well_is_sound()
 /// Where a check is clean, the objects that it received are a sound store. The premise is the same.
 pub fn clean_is_sound()
     ensures { CleanIsSound }
+{}
+
+/// And the pairs that are reached in what it received, of which it tells the number, are those that the snapshots among these
+/// objects reach in the blobs held. The premise is the same.
+pub fn clean_counts_reached()
+    ensures { CleanCountsReached }
 {}
 
 /// Of each thing one thing is found: that it is well, or one fault.
@@ -95,6 +101,12 @@ pub fn check_changes_nothing()
 /// the blobs in packs, have one name.
 pub fn clean_is_of_sound()
     ensures { CleanIsOfSound }
+{}
+
+/// And the numbers that it tells are the store's: of its snapshots, its indexes and its packs, and of the pairs of kind and name
+/// that its snapshots reach in the blobs held, each counted once. Premise: the same.
+pub fn clean_tells_counts()
+    ensures { CleanTellsCounts }
 {}
 
 /// A check alone with a store that is sound, has a config that reads and no lock, and whose device doesn't fail, is clean at

@@ -16,9 +16,11 @@
 //! Promised: a check goes by its rule: over any replies, whoever answers, `Clean` and
 //! `Faults` say what they say of the bytes received ([`clean_is_what_came`], [`faults_are_what_came`]), and a reply that wants
 //! memory may be taken again. Where each thing is found well, the objects received are a sound store, if no two of what was
-//! received have one name ([`well_is_sound`], [`clean_is_sound`]); and none is at fault ([`well_has_no_fault`]). By its rule, a
-//! check alone with its store changes nothing, is clean only where the store is sound, and on a sound store whose device doesn't
-//! fail ends clean, or for want of memory ([`check_changes_nothing`], [`clean_is_of_sound`], [`check_ends_well`]).
+//! received have one name ([`well_is_sound`], [`clean_is_sound`]), and what is reached in what was received is what their
+//! snapshots reach ([`clean_counts_reached`]); and none is at fault ([`well_has_no_fault`]). By its rule, a
+//! check alone with its store changes nothing, is clean only where the store is sound, and with the store's own numbers, and on
+//! a sound store whose device doesn't fail ends clean, or for want of memory ([`check_changes_nothing`], [`clean_is_of_sound`],
+//! [`clean_tells_counts`], [`check_ends_well`]).
 //!
 //! The survey is over once it received just what a check has to ([`surveyed_is_received`]); its visits are then what the
 //! snapshots reach ([`visits_are_reached`], [`content_is_reached`]), and what is told of each sort of thing by what is known
@@ -55,9 +57,10 @@ mod walks;
 
 pub use checks::Check;
 pub use laws::{
-    check_changes_nothing, check_ends_well, clean_is_of_sound, clean_is_sound, clean_is_what_came,
-    content_is_reached, content_is_told, faults_are_what_came, fits_as_found, found_once,
-    heard_once, indexes_are_told, packs_are_told, places_are_told, snapshots_are_told,
-    surveyed_is_received, trees_are_told, visits_are_reached, well_has_no_fault, well_is_sound,
+    check_changes_nothing, check_ends_well, clean_counts_reached, clean_is_of_sound,
+    clean_is_sound, clean_is_what_came, clean_tells_counts, content_is_reached, content_is_told,
+    faults_are_what_came, fits_as_found, found_once, heard_once, indexes_are_told, packs_are_told,
+    places_are_told, snapshots_are_told, surveyed_is_received, trees_are_told, visits_are_reached,
+    well_has_no_fault, well_is_sound,
 };
 pub use telling::{ranks_ascend, told_are_found, told_ascend};
