@@ -1,7 +1,7 @@
 //! How the program ends, and what it says then.
 
 ghost use Rattle.std.specs.Prelude.{◌≡◌, ◌≢◌};
-ghost use Rattle.std_io.specs.declared.io.kind.ErrorKind.{ErrorKind};
+ghost use Rattle.std.specs.declared.io.ErrorKind.TheVariants.{OutOfMemory};
 ghost use Rattle.repo_prog.specs.Commands.{status_code};
 ghost use Rattle.repo_prog.specs.declared.status.Status.{Status};
 
@@ -73,8 +73,8 @@ pub fn failed_by<F: Write>(faults: &mut F, error: &io::Error, text: &str) -> Sta
 
 /// Tells why the words couldn't be read: want of memory as such; else that one isn't text.
 pub fn refuse_unread<F: Write>(kind: ErrorKind, faults: &mut F) -> Status
-    ensures memory { kind ≡ ErrorKind.OutOfMemory → result ≡ Status.Failed }
-    ensures other { kind ≢ ErrorKind.OutOfMemory → result ≡ Status.Usage }
+    ensures memory { kind ≡ OutOfMemory → result ≡ Status.Failed }
+    ensures other { kind ≢ OutOfMemory → result ≡ Status.Usage }
 {
     if kind == ErrorKind::OutOfMemory {
         return failed(faults, &"out of memory");
