@@ -1,6 +1,6 @@
 //! A disk that stops after some calls.
 
-ghost use Rattle.std.specs.Prelude.{◌≡◌, ◌≤◌, ◌+◌, ◌-◌, ◌^◌, min, ℕ, OnOk, OnErr, IsErrOf};
+ghost use Rattle.std.specs.Prelude.{◌≡◌, ◌≤◌, ◌+◌, ◌-◌, ◌^◌, ◌↔◌, min, ℕ, IsOk, OnOk, OnErr, IsErrOf};
 ghost use Rattle.repo_disk.specs.declared.disks.DiskError.{DiskError};
 
 use crate::disks::{Cuts, Disk, DiskError};
@@ -29,9 +29,11 @@ impl<D> Stopping<D> {
         }
     }
 
-    /// Lets one call pass, if one is left; else it counts a failure.
+    /// Lets one call pass, just where one is left; else it counts a failure.
     fn pass(&mut self) -> Result<(), DiskError>
         ensures inner { self.new.inner ≡ self.old.inner }
+        ensures passes { IsOk result ↔ (1 ≤ self.old.left) }
+        ensures left { OnOk result (self.new.left + 1 ≡ self.old.left) }
         ensures ok { OnOk result (self.new.count ≡ self.old.count) }
         ensures err { OnErr result (self.new.count ≡ min (self.old.count + 1) (2 ^ 64 - 1)) }
         ensures failed { OnErr result (IsErrOf result DiskError.Failed) }
