@@ -22,7 +22,7 @@ use Rattle.repo_disk.specs.declared.disks.DiskError.{DiskError}
 use Rattle.repo_disk.specs.declared.rooms.Room.{Room}
 use Rattle.repo_folder.specs.Folders.{IsKept, Stays, Comes, Puts, Keeps, Shows}
 use Rattle.repo_folder.specs.Ledgers.{first_of, tokens_in}
-use Rattle.repo_folder.specs.Spelling.{are_bytes, is_name, room_of, object_in, spelled, config_name, ledger_name, HasLedger, IsBegun, shelf_error, told}
+use Rattle.repo_folder.specs.Spelling.{are_bytes, is_name, room_of, object_in, spelled, config_name, ledger_name, Stands, HasLedger, IsBegun, shelf_error, told}
 use Rattle.repo_folder.proofs.LedgerLemmas.{ledger_one}
 
 -- ---- names
@@ -89,6 +89,10 @@ config_no_ledger h = apart 99 108 (ap first_of h) (omega arith) (omega arith)
 pub object_of : (files : Room → List ℕ → Option (List ℕ)) (k : Kind) (n : Name) → IsName n → object_in files k n ≡ files (room_of k n) (hex_of n)
 object_of files k n is = rw (name_told n is) refl
 
+-- the ledger that stands in its file is the one that is spelled
+pub stands_spelled : (files : Room → List ℕ → Option (List ℕ)) (l : Tokens) → Stands files l → tokens_in (files Room.Top ledger_name) ≡ l
+stands_spelled files l stands = ap tokens_in stands.1 ∙ ledger_one l stands.0
+
 -- ---- stores
 
 module _ (s t : State) where
@@ -103,7 +107,7 @@ module _ (s t : State) where
   store_stays h = same_store _ _ (h Room.Top config_name tt) (λ k i n. object_stays h k n i) (ap tokens_in (h Room.Top ledger_name tt)) refl
 
   pub ledger_stays : Stays s t → HasLedger s.fate → HasLedger t.fate
-  ledger_stays h had = (had.0, had.1, h Room.Top ledger_name tt ∙ had.2)
+  ledger_stays h had = (had.0, (had.1.0, h Room.Top ledger_name tt ∙ had.1.1))
 
   -- an object of a name that isn't given anything
   module _ (kind : Kind) (name : Name) (is : IsName name) (to : Option (List ℕ)) (c : Comes (room_of kind name) (hex_of name) to s t) where
@@ -125,7 +129,7 @@ module _ (s t : State) where
     top_apart n = elim (c.others Room.Top n tt) [ inl p ↦ absurd (not_top kind name (sym p.0)) | inr e ↦ e ]
 
     pub ledger_apart : HasLedger s.fate → HasLedger t.fate
-    ledger_apart had = (had.0, had.1, top_apart ledger_name ∙ had.2)
+    ledger_apart had = (had.0, (had.1.0, top_apart ledger_name ∙ had.1.1))
 
   pub removes : (kind : Kind) (name : Name) → IsName name → Comes (room_of kind name) (hex_of name) None s t → RemovesObject kind name (spelled s.fate) (spelled t.fate)
   removes kind name is c = (
@@ -200,7 +204,7 @@ module _ (s t : State) where
       same = elim (c.others Room.Top ledger_name tt) [ inl p ↦ absurd (config_no_ledger (sym p.1)) | inr e ↦ e ]
 
   pub ledger_config : (bytes : List ℕ) → Comes Room.Top config_name (Some bytes) s t → HasLedger s.fate → HasLedger t.fate
-  ledger_config bytes c had = elim (c.others Room.Top ledger_name tt) [ inl p ↦ absurd (config_no_ledger (sym p.1)) | inr e ↦ (had.0, had.1, e ∙ had.2) ]
+  ledger_config bytes c had = elim (c.others Room.Top ledger_name tt) [ inl p ↦ absurd (config_no_ledger (sym p.1)) | inr e ↦ (had.0, (had.1.0, e ∙ had.1.1)) ]
 
   pub saves_tokens : (l : Tokens) → IsLedger l → Comes Room.Top ledger_name (Some (ledger_bytes l)) s t → SavesTokens l (spelled s.fate) (spelled t.fate)
   saves_tokens l is c = (same, (λ i k. objects_apart ledger_name (Some (ledger_bytes l)) c k i), ap tokens_in c.here ∙ ledger_one l is, refl)
@@ -209,7 +213,7 @@ module _ (s t : State) where
       same = elim (c.others Room.Top config_name tt) [ inl p ↦ absurd (config_no_ledger p.1) | inr e ↦ e ]
 
   pub ledger_saved : (l : Tokens) → IsLedger l → Comes Room.Top ledger_name (Some (ledger_bytes l)) s t → HasLedger t.fate
-  ledger_saved l is c = (l, is, c.here)
+  ledger_saved l is c = (l, (is, c.here))
 
   -- ---- calls
 
@@ -244,7 +248,7 @@ module _ (s t : State) where
 
   pub ledger_read : (tells : Result Tokens ShelfError) (had : HasLedger s.fate) → IfOk tells (λ l. l ≡ had.0) → Stays s t
       → Reads (λ l. l ≡ tokens_in (s.fate Room.Top ledger_name)) (spelled s.fate) tells (spelled t.fate)
-  ledger_read (Ok l) had is stays = (is ∙ sym (ap tokens_in had.2 ∙ ledger_one had.0 had.1), store_stays stays)
+  ledger_read (Ok l) had is stays = (is ∙ sym (stands_spelled s.fate had.0 had.1), store_stays stays)
   ledger_read (Err ShelfError.Fault) had is stays = store_stays stays
   ledger_read (Err ShelfError.Memory) had is stays = store_stays stays
 
@@ -286,7 +290,7 @@ caused_told old new result tells e h = subst (λ r. HasCause old r new) (sym e) 
 -- files of which there is a fresh ledger, and no more, spell an empty store
 begun_spells : (files : Room → List ℕ → Option (List ℕ)) → ((r : Room) (n : List ℕ) → IsKept r → ((r ≡ Room.Top) × (n ≡ ledger_name)) ⊎ (files r n ≡ None))
     → files Room.Top ledger_name ≡ Some (ledger_bytes start) → HasLedger files × (spelled files ≡ empty)
-begun_spells files others fresh = ((start, start_lawful, fresh), same_store _ _ config (λ k i n. object k n i) (ap tokens_in fresh ∙ ledger_one start start_lawful) refl)
+begun_spells files others fresh = ((start, (start_lawful, fresh)), same_store _ _ config (λ k i n. object k n i) (ap tokens_in fresh ∙ ledger_one start start_lawful) refl)
   where
     config : files Room.Top config_name ≡ None
     config = elim (others Room.Top config_name tt) [ inl p ↦ absurd (config_no_ledger p.1) | inr e ↦ e ]

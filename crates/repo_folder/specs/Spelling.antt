@@ -3,7 +3,8 @@ use Rattle.std.specs.Prelude.{◌≡◌, ◌⊎◌, ◌==◌, ◌&&◌, ℕ, Boo
 use Rattle.repo_name.specs.declared.kinds.Kind.{Kind}
 use Rattle.repo_name.specs.declared.names.Name.{Name}
 use Rattle.repo_name.specs.Naming.{hex_of}
-use Rattle.repo_locks.specs.TokenMachine.{Tokens, start}
+use Rattle.repo_name.specs.declared.tokens.Token.{Token}
+use Rattle.repo_locks.specs.TokenMachine.{Tokens, start, live_as}
 use Rattle.repo_locks.specs.Lawful.{IsLedger}
 use Rattle.repo_locks.specs.LedgerBytes.{ledger_bytes}
 use Rattle.repo_store.specs.Stores.{Store}
@@ -48,9 +49,17 @@ object_in files kind n = if is_name n then files (room_of kind n) (hex_of n) els
 abbrev pub spelled : Files → Store
 spelled files = record { config = files Room.Top config_name; objects = object_in files; tokens = tokens_in (files Room.Top ledger_name); append_only = false }
 
+-- this ledger stands in its file
+abbrev pub Stands : Files → Tokens → Type 0
+Stands files l = IsLedger l × (files Room.Top ledger_name ≡ Some (ledger_bytes l))
+
 -- files have a ledger
 abbrev pub HasLedger : Files → Type 0
-HasLedger files = (l : Tokens) × IsLedger l × (files Room.Top ledger_name ≡ Some (ledger_bytes l))
+HasLedger files = (l : Tokens) × Stands files l
+
+-- how a token's lock is live, as the ledger that stands in its file tells it
+abbrev pub StandsLive : Files → Token → Option Bool → Type 0
+StandsLive files token live = (l : Tokens) × Stands files l × (live ≡ live_as l token)
 
 -- files of which there are none yet but a fresh ledger
 pub record IsBegun (files : Files) : Type 0 where

@@ -6,9 +6,12 @@ ghost use Rattle.repo_disk.specs.Disks.{IsPart};
 ghost use Rattle.repo_disk.specs.Disks as disks;
 ghost use Rattle.repo_locks.specs.Lawful.{IsLedger};
 ghost use Rattle.repo_locks.specs.LedgerBytes.{ledger_bytes};
-ghost use Rattle.repo_locks.specs.TokenMachine.{Tokens};
+ghost use Rattle.repo_locks.specs.TokenMachine.{Tokens, live_as};
+ghost use Rattle.repo_store.specs.Laws.{Reads, HasCause};
 ghost use Rattle.repo_store.specs.Slices.{IsSlice, HasLength};
 ghost use Rattle.repo_store.specs.declared.shelves.ShelfError.{ShelfError};
+ghost use Rattle.repo_folder.specs.Folders.{IsHonest, Stays};
+ghost use Rattle.repo_folder.specs.Spelling.{spelled, Stands, HasLedger, StandsLive};
 
 use crate::folders::Folder;
 use crate::places::{CONFIG, CONFIG_DRAFT, LEDGER, LEDGER_DRAFT, draft_of, room_of};
@@ -116,12 +119,31 @@ impl<D: Disk> Shelf for DirShelf<D> {
         }
     }
 
-    fn ledger(&mut self) -> Result<Ledger, ShelfError> {
+    /// The ledger that stands in its file: where none does, none is given.
+    fn ledger(&mut self) -> Result<Ledger, ShelfError>
+        ensures stands { IsHonest (D.faithful self.old.folder.disk) self.old.folder.standing (D.state self.old.folder.disk) → IfOk result (Stands (D.state self.old.folder.disk).fate) }
+        ensures stays { IsHonest (D.faithful self.old.folder.disk) self.old.folder.standing (D.state self.old.folder.disk) → Stays (D.state self.old.folder.disk) (D.state self.new.folder.disk) }
+        ensures steady { IsHonest (D.faithful self.old.folder.disk) self.old.folder.standing (D.state self.old.folder.disk)
+            → IsHonest (D.faithful self.new.folder.disk) self.new.folder.standing (D.state self.new.folder.disk) }
+        ensures law { IsHonest (D.faithful self.old.folder.disk) self.old.folder.standing (D.state self.old.folder.disk) × HasLedger (D.state self.old.folder.disk).fate
+            → Reads (λ ledger. ledger ≡ (spelled (D.state self.old.folder.disk).fate).tokens) (spelled (D.state self.old.folder.disk).fate) result (spelled (D.state self.new.folder.disk).fate) }
+        ensures cause { IsHonest (D.faithful self.old.folder.disk) self.old.folder.standing (D.state self.old.folder.disk) × HasLedger (D.state self.old.folder.disk).fate
+            → HasCause (D.failed self.old.folder.disk) result (D.failed self.new.folder.disk) }
+    {
         let bytes = told(self.folder.read(Room::Top, LEDGER))?;
         ledger_of(self.alloc, bytes)
     }
 
-    fn live_as(&mut self, token: Token) -> Result<Option<bool>, ShelfError> {
+    fn live_as(&mut self, token: Token) -> Result<Option<bool>, ShelfError>
+        ensures stands { IsHonest (D.faithful self.old.folder.disk) self.old.folder.standing (D.state self.old.folder.disk) → IfOk result (StandsLive (D.state self.old.folder.disk).fate token) }
+        ensures stays { IsHonest (D.faithful self.old.folder.disk) self.old.folder.standing (D.state self.old.folder.disk) → Stays (D.state self.old.folder.disk) (D.state self.new.folder.disk) }
+        ensures steady { IsHonest (D.faithful self.old.folder.disk) self.old.folder.standing (D.state self.old.folder.disk)
+            → IsHonest (D.faithful self.new.folder.disk) self.new.folder.standing (D.state self.new.folder.disk) }
+        ensures law { IsHonest (D.faithful self.old.folder.disk) self.old.folder.standing (D.state self.old.folder.disk) × HasLedger (D.state self.old.folder.disk).fate
+            → Reads (λ live. live ≡ live_as (spelled (D.state self.old.folder.disk).fate).tokens token) (spelled (D.state self.old.folder.disk).fate) result (spelled (D.state self.new.folder.disk).fate) }
+        ensures cause { IsHonest (D.faithful self.old.folder.disk) self.old.folder.standing (D.state self.old.folder.disk) × HasLedger (D.state self.old.folder.disk).fate
+            → HasCause (D.failed self.old.folder.disk) result (D.failed self.new.folder.disk) }
+    {
         Ok(self.ledger()?.live_as(token))
     }
 

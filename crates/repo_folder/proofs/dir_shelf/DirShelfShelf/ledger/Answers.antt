@@ -13,4 +13,4 @@ returns-clause-law g c h =
     let is = told_ok c.read.result c.in_ok-bytes.bytes (sym c.told.ensures ∙ c.in_ok-bytes.was) in
     let law = subst (λ r. Shows P old r new) is (c.read.ensures.law h.0) in
     let had = h.1 in
-    ledger_read old new c.ledger_of.result had (c.ledger_of.ensures.ok had.0 had.1 (law.0 ∙ had.2)) law.1
+    ledger_read old new c.ledger_of.result had (c.ledger_of.ensures.ok had.0 had.1.0 (law.0 ∙ had.1.1)) law.1
