@@ -1,6 +1,7 @@
 //! A store's folder after the power was cut, or its program was killed.
 
-ghost use Rattle.std.specs.Prelude.{◌≡◌, IfOk};
+ghost use Rattle.std.specs.Prelude.{◌≡◌, false, IfOk};
+ghost use Rattle.repo_disk.specs.Disks.{IsCut};
 ghost use Rattle.repo_folder.specs.Folders.{IsHonest, Stays};
 ghost use Rattle.repo_folder.specs.Spelling.{spelled, HasLedger};
 ghost use Rattle.repo_folder.specs.declared.folders.Standing.{Standing};
@@ -37,10 +38,13 @@ impl<D: Disk + Drop> DirShelf<D> {
         disk
     }
 
-    /// The program is killed, whatever happened before, and starts again: the store is the same.
+    /// The program is killed, whatever happened before, and starts again: the disk and the store are the same, and nothing
+    /// is known of what lasts, nor of what failed.
     pub fn kill(self) -> DirShelf<D>
-        ensures honest { IsHonest (D.faithful self.folder.disk) self.folder.standing (D.state self.folder.disk) → HasLedger (D.state self.folder.disk).fate
-            → IsHonest (D.faithful result.folder.disk) result.folder.standing (D.state result.folder.disk) × HasLedger (D.state result.folder.disk).fate }
+        ensures anew { result.folder ≡ record { disk = self.folder.disk; standing = Standing.Unsettled; has_failed = false } }
+        ensures honest { IsHonest (D.faithful self.folder.disk) self.folder.standing (D.state self.folder.disk)
+            → IsHonest (D.faithful result.folder.disk) result.folder.standing (D.state result.folder.disk) }
+        ensures ledger { HasLedger (D.state self.folder.disk).fate → HasLedger (D.state result.folder.disk).fate }
         ensures same { IsHonest (D.faithful self.folder.disk) self.folder.standing (D.state self.folder.disk)
             → spelled (D.state result.folder.disk).fate ≡ spelled (D.state self.folder.disk).fate }
     {
@@ -54,10 +58,14 @@ impl<D: Disk + Drop> DirShelf<D> {
 }
 
 impl<D: Cuts + Drop> DirShelf<D> {
-    /// The power is cut, whatever happened before, and comes back: the store is the same.
+    /// The power is cut, whatever happened before, and comes back: the disk is as a cut leaves it, the store is the same,
+    /// and nothing is known of what lasts, nor of what failed.
     pub fn cut(self) -> DirShelf<D>
-        ensures honest { IsHonest (D.faithful self.folder.disk) self.folder.standing (D.state self.folder.disk) → HasLedger (D.state self.folder.disk).fate
-            → IsHonest (D.faithful result.folder.disk) result.folder.standing (D.state result.folder.disk) × HasLedger (D.state result.folder.disk).fate }
+        ensures cut { D.faithful self.folder.disk → IsCut (D.state self.folder.disk) (D.state result.folder.disk) }
+        ensures anew { (result.folder.standing ≡ Standing.Unsettled) × (result.folder.has_failed ≡ false) }
+        ensures honest { IsHonest (D.faithful self.folder.disk) self.folder.standing (D.state self.folder.disk)
+            → IsHonest (D.faithful result.folder.disk) result.folder.standing (D.state result.folder.disk) }
+        ensures ledger { D.faithful self.folder.disk → HasLedger (D.state self.folder.disk).fate → HasLedger (D.state result.folder.disk).fate }
         ensures same { IsHonest (D.faithful self.folder.disk) self.folder.standing (D.state self.folder.disk)
             → spelled (D.state result.folder.disk).fate ≡ spelled (D.state self.folder.disk).fate }
     {

@@ -2,8 +2,8 @@
 
 ghost use Rattle.std.specs.Prelude.{◌≡◌, IfOk};
 ghost use Rattle.repo_folder.specs.Folders.{IsHonest};
-ghost use Rattle.repo_folder.specs.Lives.{Turns, Lives};
-ghost use Rattle.repo_folder.specs.Spelling.{spelled, HasLedger};
+ghost use Rattle.repo_folder.specs.Lives.{at, Turns, Lives};
+ghost use Rattle.repo_folder.specs.Spelling.{HasLedger};
 
 use crate::dir_shelf::DirShelf;
 use repo_disk::Cuts;
@@ -31,7 +31,8 @@ fn take_turn<D: Cuts + Drop>(
     ensures honest { IsHonest (D.faithful shelf.folder.disk) shelf.folder.standing (D.state shelf.folder.disk) → HasLedger (D.state shelf.folder.disk).fate
         → IsHonest (D.faithful result.0.folder.disk) result.0.folder.standing (D.state result.0.folder.disk) × HasLedger (D.state result.0.folder.disk).fate }
     ensures law { IsHonest (D.faithful shelf.folder.disk) shelf.folder.standing (D.state shelf.folder.disk) → HasLedger (D.state shelf.folder.disk).fate
-        → Turns (spelled (D.state shelf.folder.disk).fate) turn.now result.1 (spelled (D.state result.0.folder.disk).fate) }
+        → Turns (at (D.state shelf.folder.disk) shelf.folder.standing shelf.folder.has_failed) turn.now result.1
+        (at (D.state result.0.folder.disk) result.0.folder.standing result.0.folder.has_failed) }
 {
     let mut shelf = shelf;
     match turn {
@@ -68,7 +69,8 @@ pub fn live<D: Cuts + Drop>(
         (λ lived. IsHonest (D.faithful lived.0.folder.disk) lived.0.folder.standing (D.state lived.0.folder.disk) × HasLedger (D.state lived.0.folder.disk).fate) }
     ensures law { IsHonest (D.faithful shelf.folder.disk) shelf.folder.standing (D.state shelf.folder.disk) → HasLedger (D.state shelf.folder.disk).fate
         → IfOk result
-        (λ lived. Lives (spelled (D.state shelf.folder.disk).fate) turns.now lived.1.items (spelled (D.state lived.0.folder.disk).fate)) }
+        (λ lived. Lives (at (D.state shelf.folder.disk) shelf.folder.standing shelf.folder.has_failed) turns.now lived.1.items
+        (at (D.state lived.0.folder.disk) lived.0.folder.standing lived.0.folder.has_failed)) }
 {
     let mut shelf = shelf;
     let mut told = Vec::with_capacity(alloc, turns.len())?;

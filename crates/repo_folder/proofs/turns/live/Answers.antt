@@ -1,7 +1,6 @@
 use Rattle.std.proofs.Common.{rules, ◌≡◌, ◌++◌, ◌∷◌, ◌+◌, [], List, Result, sym, subst, take}
 use Rattle.repo_store.specs.declared.shelves.ShelfError.{ShelfError}
-use Rattle.repo_folder.specs.Lives.{Turns, Lives}
-use Rattle.repo_folder.specs.Spelling.{spelled}
+use Rattle.repo_folder.specs.Lives.{at, Turns, Lives}
 use Rattle.repo_folder.proofs.LifeLemmas.{lives_more}
 use Rattle.repo_folder.proofs.turns.live.Goals as goal
 
@@ -10,9 +9,9 @@ loop-turn-preserved g c =
     let inv = c.loop-turn.invariant in
     let i = c.loop-turn.turn-index in
     let turns = c.args.turns.now in
-    let old = spelled (g.D.Disk.state c.args.shelf.folder.disk).fate in
-    let mid = spelled (g.D.Disk.state c.loop-turn.shelf.folder.disk).fate in
-    let new = spelled (g.D.Disk.state c.take_turn-next.result.0.folder.disk).fate in
+    let old = at (g.D.Disk.state c.args.shelf.folder.disk) c.args.shelf.folder.standing c.args.shelf.folder.has_failed in
+    let mid = at (g.D.Disk.state c.loop-turn.shelf.folder.disk) c.loop-turn.shelf.folder.standing c.loop-turn.shelf.folder.has_failed in
+    let new = at (g.D.Disk.state c.take_turn-next.result.0.folder.disk) c.take_turn-next.result.0.folder.standing c.take_turn-next.result.0.folder.has_failed in
     let told = c.loop-turn.told.items in
     let tells = c.take_turn-next.result.1 in
     let added : c.push.new.self.items ≡ told ++ tells ∷ [] = search rules in
