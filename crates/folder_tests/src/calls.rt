@@ -12,6 +12,11 @@ fn stopping(alloc: Global, left: u64) -> Stopping<MemDisk> {
     Stopping::new(MemDisk::new(alloc, Vec::new(alloc)), left)
 }
 
+/// A store that is made on a disk which stops after so many calls.
+fn made(alloc: Global, left: u64) -> Result<DirShelf<Stopping<MemDisk>>, ShelfError> {
+    DirShelf::create(stopping(alloc, left), alloc).map_err(|unopened| unopened.error)
+}
+
 /// Whether a slice is these bytes.
 fn is_slice(slice: &Slice, bytes: &[u8]) -> bool {
     match slice {
@@ -34,7 +39,7 @@ fn is_refused(made: &Result<DirShelf<Stopping<MemDisk>>, ShelfError>) -> bool {
 fn each_call_is_answered(rt: HostRuntime) -> Result<(), ShelfError> {
     let alloc = rt.alloc();
     let name = name_of(b"pack");
-    let mut shelf = DirShelf::create(stopping(alloc, u64::MAX), alloc)?;
+    let mut shelf = made(alloc, u64::MAX)?;
     shelf.put(Kind::Pack, &name, b"pack")?;
     let mut ledger = shelf.ledger()?;
     let mut wrong = 0u32;
@@ -74,7 +79,7 @@ fn lock_alone(ledger: &mut Ledger) -> Option<Token> {
 #[test]
 fn a_token_is_live_while_its_lock_is_kept(rt: HostRuntime) -> Result<(), ShelfError> {
     let alloc = rt.alloc();
-    let mut shelf = DirShelf::create(stopping(alloc, u64::MAX), alloc)?;
+    let mut shelf = made(alloc, u64::MAX)?;
     let mut ledger = shelf.ledger()?;
     let locked = lock_alone(&mut ledger);
     shelf.save_ledger(&ledger)?;
@@ -94,10 +99,10 @@ fn a_disk_that_stops_keeps_what_was_told(rt: HostRuntime) -> Result<(), ShelfErr
     let alloc = rt.alloc();
     let name = name_of(b"index");
     let mut wrong = 0u32;
-    if !is_refused(&DirShelf::create(stopping(alloc, 500), alloc)) {
+    if !is_refused(&made(alloc, 500)) {
         wrong = wrong.saturating_add(1);
     }
-    let shelf = DirShelf::create(stopping(alloc, 526), alloc)?;
+    let shelf = made(alloc, 526)?;
     let mut turns = Vec::new(alloc);
     let bytes = Bytes::of(b"index".to_vec(alloc)?);
     turns

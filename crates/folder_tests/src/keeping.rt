@@ -36,6 +36,11 @@ fn is_nothing(read: &Result<Option<Bytes>, ShelfError>) -> bool {
     matches!(read, Ok(None))
 }
 
+/// A store that is made.
+fn made(alloc: Global) -> Result<DirShelf<MemDisk>, ShelfError> {
+    DirShelf::create(disk(alloc), alloc).map_err(|unopened| unopened.error)
+}
+
 /// A store that is made, and opened on a disk whose next rename does this.
 fn opened(alloc: Global, rename: Choice) -> Result<DirShelf<MemDisk>, ShelfError> {
     let mut choices = Vec::new(alloc);
@@ -45,16 +50,16 @@ fn opened(alloc: Global, rename: Choice) -> Result<DirShelf<MemDisk>, ShelfError
             .push(Choice::Succeeds(Comes::ToThis))
             .map_err(|_| ShelfError::Memory)?;
     }
-    let mut disk = DirShelf::create(disk(alloc), alloc)?.close();
+    let mut disk = made(alloc)?.close();
     disk.choose(after_syncs(alloc, choices)?);
-    DirShelf::open(disk, alloc)
+    DirShelf::open(disk, alloc).map_err(|unopened| unopened.error)
 }
 
 #[test]
 fn what_is_put_is_found_after_a_cut(rt: HostRuntime) -> Result<(), ShelfError> {
     let alloc = rt.alloc();
     let name = name_of(b"index");
-    let mut shelf = DirShelf::create(disk(alloc), alloc)?;
+    let mut shelf = made(alloc)?;
     shelf.put(Kind::Index, &name, b"index")?;
     shelf.save_config(b"config")?;
     let mut shelf = shelf.cut();

@@ -6,7 +6,7 @@ ghost use Rattle.repo_folder.specs.declared.folders.Standing.{Standing};
 use crate::file_disk::FileDisk;
 use crate::folders::{Access, Folder};
 use crate::holding::HoldFile;
-use repo_folder::DirShelf;
+use repo_folder::{DirShelf, Unopened};
 use repo_store::ShelfError;
 use std::alloc::AllocGlobal;
 use std::fs::Files;
@@ -66,13 +66,15 @@ where
     or_error(DirShelf::open(disk, rt.alloc()))
 }
 
-/// What a shelf tells, as the system tells it: want of memory as such.
-fn or_error<T>(outcome: Result<T, ShelfError>) -> io::Result<T>
-    ensures { IfOk result (λ value. outcome ≡ Ok value) }
+/// The shelf, or why it wasn't opened, as the system tells it: want of memory as such. The disk is let go then.
+fn or_error<D: Drop>(outcome: Result<DirShelf<D>, Unopened<D>>) -> io::Result<DirShelf<D>>
+    ensures { IfOk result (λ shelf. outcome ≡ Ok shelf) }
 {
     match outcome {
-        Ok(value) => Ok(value),
-        Err(ShelfError::Memory) => Err(io::Error::from(ErrorKind::OutOfMemory)),
-        Err(ShelfError::Fault) => Err(io::Error::from(ErrorKind::Other)),
+        Ok(shelf) => Ok(shelf),
+        Err(unopened) => match unopened.error {
+            ShelfError::Memory => Err(io::Error::from(ErrorKind::OutOfMemory)),
+            ShelfError::Fault => Err(io::Error::from(ErrorKind::Other)),
+        },
     }
 }

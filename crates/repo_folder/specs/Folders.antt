@@ -76,3 +76,9 @@ pub record IsMade (old new : State) : Type 0 where
   pub now : new.now ≡ old.now
   pub fate : new.fate ≡ old.fate
   pub top : old.lasting Room.Top ≡ true → new.lasting Room.Top ≡ true
+
+-- nothing that is kept changes, and the store's own folder lasts still
+pub record IsUntouched (old new : State) : Type 0 where
+  pub now : (r : Room) (n : List ℕ) → IsKept r → new.now r n ≡ old.now r n
+  pub fate : Stays old new
+  pub top : old.lasting Room.Top ≡ true → new.lasting Room.Top ≡ true

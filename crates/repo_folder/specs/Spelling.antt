@@ -7,6 +7,7 @@ use Rattle.repo_name.specs.declared.tokens.Token.{Token}
 use Rattle.repo_locks.specs.TokenMachine.{Tokens, start, live_as}
 use Rattle.repo_locks.specs.Lawful.{IsLedger}
 use Rattle.repo_locks.specs.LedgerBytes.{ledger_bytes}
+use Rattle.repo_store.specs.Laws.{HasCause}
 use Rattle.repo_store.specs.Stores.{Store}
 use Rattle.repo_store.specs.declared.shelves.ShelfError.{ShelfError}
 use Rattle.repo_disk.specs.declared.disks.DiskError.{DiskError}
@@ -79,3 +80,7 @@ shelf_error DiskError.Memory = ShelfError.Memory
 abbrev pub told : {T : Type 0} → Result T DiskError → Result T ShelfError
 told (Ok x) = Ok x
 told (Err e) = Err (shelf_error e)
+
+-- the count of failures doesn't fall, and an error that is a fault is told only where it rose, or stands at its greatest
+abbrev pub IsCaused : ℕ → ShelfError → ℕ → Type 0
+IsCaused old error new = HasCause {T = Unit {0}} old (Err error) new

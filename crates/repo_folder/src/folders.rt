@@ -47,6 +47,7 @@ impl<D: Disk> Folder<D> {
             → IsHonest (D.faithful self.new.disk) self.new.standing (D.state self.new.disk) }
         ensures settled { OnOk result (self.new.standing ≡ Standing.Settled) }
         ensures cause { HasCause (D.failed self.old.disk) result (D.failed self.new.disk) }
+        ensures failed { self.new.has_failed ≡ self.old.has_failed }
     {
         if self.standing == Standing::Settled {
             return Ok(());
@@ -64,6 +65,7 @@ impl<D: Disk> Folder<D> {
         ensures honest { IsHonest (D.faithful self.old.disk) self.old.standing (D.state self.old.disk)
             → IsHonest (D.faithful self.new.disk) self.new.standing (D.state self.new.disk) }
         ensures cause { HasCause (D.failed self.old.disk) result (D.failed self.new.disk) }
+        ensures failed { self.new.has_failed ≡ self.old.has_failed }
     {
         self.settle()?;
         self.disk.read(room, name)
@@ -77,6 +79,7 @@ impl<D: Disk> Folder<D> {
         ensures honest { IsHonest (D.faithful self.old.disk) self.old.standing (D.state self.old.disk)
             → IsHonest (D.faithful self.new.disk) self.new.standing (D.state self.new.disk) }
         ensures cause { HasCause (D.failed self.old.disk) result (D.failed self.new.disk) }
+        ensures failed { self.new.has_failed ≡ self.old.has_failed }
     {
         self.settle()?;
         self.disk.has(room, name)
@@ -97,6 +100,7 @@ impl<D: Disk> Folder<D> {
         ensures honest { IsHonest (D.faithful self.old.disk) self.old.standing (D.state self.old.disk)
             → IsHonest (D.faithful self.new.disk) self.new.standing (D.state self.new.disk) }
         ensures cause { HasCause (D.failed self.old.disk) result (D.failed self.new.disk) }
+        ensures failed { self.new.has_failed ≡ self.old.has_failed }
     {
         self.settle()?;
         self.disk.read_part(room, name, offset, length)
@@ -110,6 +114,7 @@ impl<D: Disk> Folder<D> {
         ensures honest { IsHonest (D.faithful self.old.disk) self.old.standing (D.state self.old.disk)
             → IsHonest (D.faithful self.new.disk) self.new.standing (D.state self.new.disk) }
         ensures cause { HasCause (D.failed self.old.disk) result (D.failed self.new.disk) }
+        ensures failed { self.new.has_failed ≡ self.old.has_failed }
     {
         self.settle()?;
         self.disk.names(room)

@@ -12,7 +12,7 @@
 //!
 //! The definitions stand in `specs/`: `Folders` (what a folder asks of its disk, and what its calls do), `Spelling` (the
 //! store that files spell), `Ledgers` (the ledger that bytes spell), `Drafts` (names of files that are being written),
-//! `Listings` (names of objects in a folder), `Laws`.
+//! `Listings` (names of objects in a folder), `Lives` (what calls, kills and cuts come to), `Laws`.
 #![tactic(auto)]
 
 mod dir_shelf;
@@ -27,8 +27,10 @@ mod places;
 mod syncing;
 mod telling;
 mod turns;
+mod unopened;
 
 pub use dir_shelf::DirShelf;
 pub use folders::{Folder, Standing};
 pub use places::{CONFIG, LEDGER, is_draft};
 pub use turns::{Turn, live};
+pub use unopened::Unopened;

@@ -1,32 +1,44 @@
 //! A store's folder after the power was cut, or its program was killed.
 
-ghost use Rattle.std.specs.Prelude.{◌≡◌, false, IfOk};
+ghost use Rattle.std.specs.Prelude.{◌≡◌, ◌≤◌, false, IfOk, IfErr};
 ghost use Rattle.repo_disk.specs.Disks.{IsCut};
 ghost use Rattle.repo_folder.specs.Folders.{IsHonest, Stays};
-ghost use Rattle.repo_folder.specs.Spelling.{spelled, HasLedger};
+ghost use Rattle.repo_folder.specs.Spelling.{spelled, HasLedger, IsCaused};
 ghost use Rattle.repo_folder.specs.declared.folders.Standing.{Standing};
 
 use crate::dir_shelf::DirShelf;
 use crate::folders::Folder;
 use crate::telling::told;
+use crate::unopened::Unopened;
 use repo_disk::{Cuts, Disk};
-use repo_store::ShelfError;
 use std::alloc::Global;
 
 impl<D: Disk + Drop> DirShelf<D> {
     /// The shelf of a store's folder on this disk, whatever happened there before. All that is visible lasts then;
-    /// where that can't be brought about, the disk's failure is told.
-    pub fn open(disk: D, alloc: Global) -> Result<DirShelf<D>, ShelfError>
-        ensures honest { IsHonest (D.faithful disk) Standing.Unsettled (D.state disk) → HasLedger (D.state disk).fate → IfOk result
-            (λ shelf. IsHonest (D.faithful shelf.folder.disk) shelf.folder.standing (D.state shelf.folder.disk) × HasLedger (D.state shelf.folder.disk).fate) }
+    /// where that can't be brought about, the disk's failure is told, and the disk given back, with what was kept there.
+    pub fn open(disk: D, alloc: Global) -> Result<DirShelf<D>, Unopened<D>>
+        ensures honest { IsHonest (D.faithful disk) Standing.Unsettled (D.state disk)
+            → IfOk result (λ shelf. IsHonest (D.faithful shelf.folder.disk) shelf.folder.standing (D.state shelf.folder.disk)) }
+        ensures ledger { IsHonest (D.faithful disk) Standing.Unsettled (D.state disk) → HasLedger (D.state disk).fate
+            → IfOk result (λ shelf. HasLedger (D.state shelf.folder.disk).fate) }
         ensures same { IsHonest (D.faithful disk) Standing.Unsettled (D.state disk)
             → IfOk result (λ shelf. spelled (D.state shelf.folder.disk).fate ≡ spelled (D.state disk).fate) }
         ensures stays { IsHonest (D.faithful disk) Standing.Unsettled (D.state disk) → IfOk result (λ shelf. Stays (D.state disk) (D.state shelf.folder.disk)) }
         ensures settled { IfOk result (λ shelf. shelf.folder.standing ≡ Standing.Settled) }
+        ensures anew { IfOk result (λ shelf. shelf.folder.has_failed ≡ false) }
+        ensures kept { IsHonest (D.faithful disk) Standing.Unsettled (D.state disk) → IfErr result
+            (λ e. Stays (D.state disk) (D.state e.disk) × IsHonest (D.faithful e.disk) Standing.Unsettled (D.state e.disk)) }
+        ensures cause { IfErr result (λ e. IsCaused (D.failed disk) e.error (D.failed e.disk)) }
+        ensures count { IfOk result (λ shelf. D.failed disk ≤ D.failed shelf.folder.disk) }
     {
         let mut folder = Folder::of(disk);
-        told(folder.settle())?;
-        Ok(DirShelf { folder, alloc })
+        match told(folder.settle()) {
+            Ok(()) => Ok(DirShelf { folder, alloc }),
+            Err(error) => {
+                let Folder { disk, .. } = folder;
+                Err(Unopened { disk, error })
+            }
+        }
     }
 
     /// The disk of a shelf that is closed.
