@@ -288,26 +288,20 @@ caused_told old new result tells e h = subst (λ r. HasCause old r new) (sym e) 
 -- ---- a fresh store
 
 -- files of which there is a fresh ledger, and no more, spell an empty store
-begun_spells : (files : Room → List ℕ → Option (List ℕ)) → ((r : Room) (n : List ℕ) → IsKept r → ((r ≡ Room.Top) × (n ≡ ledger_name)) ⊎ (files r n ≡ None))
+begun_spells : (files : Room → List ℕ → Option (List ℕ)) → files Room.Top config_name ≡ None → ((k : Kind) (n : Name) → object_in files k n ≡ None)
     → files Room.Top ledger_name ≡ Some (ledger_bytes start) → HasLedger files × (spelled files ≡ empty)
-begun_spells files others fresh = ((start, (start_lawful, fresh)), same_store _ _ config (λ k i n. object k n i) (ap tokens_in fresh ∙ ledger_one start start_lawful) refl)
-  where
-    config : files Room.Top config_name ≡ None
-    config = elim (others Room.Top config_name tt) [ inl p ↦ absurd (config_no_ledger p.1) | inr e ↦ e ]
-
-    object : (k : Kind) (n : Name) → object_in files k n ≡ None
-    object k n = elim (cases_Bool (is_name n)) [
-      | inl e ↦ elim (others (room_of k n) (hex_of n) (room_kept k n (name_tells n e))) [ inl p ↦ absurd (not_top k n p.0) | inr none ↦ rw e none ]
-      | inr e ↦ rw e refl
-    ]
+begun_spells files config objects fresh = ((start, (start_lawful, fresh)), same_store _ _ config (λ k i n. objects k n i) (ap tokens_in fresh ∙ ledger_one start start_lawful) refl)
 
 module _ (s u t : State) (begun : IsBegun s.fate) (stays : Stays s u) where
-  others_stay : (r : Room) (n : List ℕ) → IsKept r → ((r ≡ Room.Top) × (n ≡ ledger_name)) ⊎ (u.fate r n ≡ None)
-  others_stay r n is = elim (begun.others r n is) [ inl p ↦ inl p | inr e ↦ inr (stays r n is ∙ e) ]
+  config_stays : u.fate Room.Top config_name ≡ None
+  config_stays = stays Room.Top config_name tt ∙ begun.config
+
+  objects_stay : (k : Kind) (n : Name) → object_in u.fate k n ≡ None
+  objects_stay k n = object_stays s u stays k n ∙ begun.objects k n
 
   -- where the ledger is there
   pub begun_there : is_some (s.fate Room.Top ledger_name) ≡ true → HasLedger u.fate × (spelled u.fate ≡ empty)
-  begun_there there = begun_spells u.fate others_stay (stays Room.Top ledger_name tt ∙ elim begun.ledger [
+  begun_there there = begun_spells u.fate config_stays objects_stay (stays Room.Top ledger_name tt ∙ elim begun.ledger [
     | inl none ↦ absurd (true≢false (sym there ∙ ap is_some none))
     | inr fresh ↦ fresh
   ])
@@ -317,7 +311,9 @@ module _ (s u t : State) (begun : IsBegun s.fate) (stays : Stays s u) where
       → OnOk tells (HasLedger t.fate × (spelled t.fate ≡ empty))
   begun_kept (Ok done) tells e c =
       let P : Result (Unit {0}) ShelfError → Type 0 = λ r. OnOk r (HasLedger t.fate × (spelled t.fate ≡ empty)) in
-      subst P (sym e) (begun_spells t.fate (λ r n is. elim (c.others r n is) [ inl p ↦ inl p | inr same ↦ elim (others_stay r n is) [ inl p ↦ inl p | inr none ↦ inr (same ∙ none) ] ]) c.here)
+      let config : t.fate Room.Top config_name ≡ None = elim (c.others Room.Top config_name tt) [ inl p ↦ absurd (config_no_ledger p.1) | inr same ↦ same ∙ config_stays ] in
+      let objects : (k : Kind) (n : Name) → object_in t.fate k n ≡ None = λ k n. ap (λ object. object n) (objects_apart u t ledger_name (Some (ledger_bytes start)) c k) ∙ objects_stay k n in
+      subst P (sym e) (begun_spells t.fate config objects c.here)
   begun_kept (Err error) tells e k =
       let P : Result (Unit {0}) ShelfError → Type 0 = λ r. OnOk r (HasLedger t.fate × (spelled t.fate ≡ empty)) in
       subst P (sym e) tt

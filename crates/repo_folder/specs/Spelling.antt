@@ -13,7 +13,7 @@ use Rattle.repo_store.specs.declared.shelves.ShelfError.{ShelfError}
 use Rattle.repo_disk.specs.declared.disks.DiskError.{DiskError}
 use Rattle.repo_disk.specs.declared.rooms.Room.{Room}
 use Rattle.repo_disk.specs.Disks.{State}
-use Rattle.repo_folder.specs.Folders.{IsKept, Puts}
+use Rattle.repo_folder.specs.Folders.{Puts}
 use Rattle.repo_folder.specs.Ledgers.{first_of, tokens_in}
 
 -- what each name in each folder has
@@ -62,10 +62,11 @@ HasLedger files = (l : Tokens) × Stands files l
 abbrev pub StandsLive : Files → Token → Option Bool → Type 0
 StandsLive files token live = (l : Tokens) × Stands files l × (live ≡ live_as l token)
 
--- files of which there are none yet but a fresh ledger
+-- files of which none is a store's yet but a fresh ledger
 pub record IsBegun (files : Files) : Type 0 where
   pub ledger : (files Room.Top ledger_name ≡ None) ⊎ (files Room.Top ledger_name ≡ Some (ledger_bytes start))
-  pub others : (r : Room) (n : List ℕ) → IsKept r → ((r ≡ Room.Top) × (n ≡ ledger_name)) ⊎ (files r n ≡ None)
+  pub config : files Room.Top config_name ≡ None
+  pub objects : (k : Kind) (n : Name) → object_in files k n ≡ None
 
 -- a fresh ledger is put where there is none; else nothing changes
 abbrev pub BeginsLedger : State → State → Type 0
