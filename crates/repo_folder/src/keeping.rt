@@ -28,6 +28,7 @@ impl<D: Disk> Folder<D> {
             → OnOk result ((D.state self.new.disk).now Room.Temporary draft.now ≡ Some (record { bytes = bytes.now; lasts = true })) }
         ensures standing { self.new.standing ≡ self.old.standing }
         ensures cause { HasCause (D.failed self.old.disk) result (D.failed self.new.disk) }
+        ensures failed { self.new.has_failed ≡ self.old.has_failed }
     {
         self.disk.draft(draft, bytes)?;
         self.disk.sync_draft(draft)
@@ -41,6 +42,7 @@ impl<D: Disk> Folder<D> {
         ensures ok { IsHonest (D.faithful self.old.disk) self.old.standing (D.state self.old.disk) → OnOk result ((self.new.standing ≡ Standing.Settled)
             × ((D.state self.new.disk).now Room.Temporary draft.now ≡ Some (record { bytes = bytes.now; lasts = true }))) }
         ensures cause { HasCause (D.failed self.old.disk) result (D.failed self.new.disk) }
+        ensures failed { self.new.has_failed ≡ self.old.has_failed }
     {
         self.settle()?;
         let written = self.write(draft, bytes);
@@ -57,6 +59,7 @@ impl<D: Disk> Folder<D> {
         ensures law { D.faithful self.old.disk → Makes (Places draft.now room name.now) (D.state self.old.disk) result (D.state self.new.disk) }
         ensures faithful { D.faithful self.old.disk → D.faithful self.new.disk }
         ensures cause { HasCause (D.failed self.old.disk) result (D.failed self.new.disk) }
+        ensures failed { self.new.has_failed ≡ self.old.has_failed }
     {
         let placed = self.disk.place(draft, room, name);
         if placed.is_err() {
@@ -87,6 +90,7 @@ impl<D: Disk> Folder<D> {
             → IsHonest (D.faithful self.old.disk) Standing.Settled (D.state self.old.disk)
             → Keeps (Comes room name.now (Some bytes)) (D.state self.old.disk) result (D.state self.new.disk) }
         ensures cause { HasCause (D.failed self.old.disk) result (D.failed self.new.disk) }
+        ensures failed { (self.new.has_failed ≡ true) ↔ ((self.old.has_failed ≡ true) ⊎ IsErr result) }
     {
         let placed = self.place(draft, room, name);
         let synced = self.disk.sync(room);
@@ -109,6 +113,10 @@ impl<D: Disk> Folder<D> {
         ensures honest { IsHonest (D.faithful self.old.disk) self.old.standing (D.state self.old.disk)
             → IsHonest (D.faithful self.new.disk) self.new.standing (D.state self.new.disk) }
         ensures cause { HasCause (D.failed self.old.disk) result (D.failed self.new.disk) }
+        ensures remembered { self.old.has_failed ≡ true → self.new.has_failed ≡ true }
+        ensures quiet { OnOk result (self.new.has_failed ≡ self.old.has_failed) }
+        ensures noted { IsHonest (D.faithful self.old.disk) self.old.standing (D.state self.old.disk)
+            → OnErr result ((self.new.has_failed ≡ true) ⊎ Stays (D.state self.old.disk) (D.state self.new.disk)) }
     {
         self.prepare(draft, bytes)?;
         self.give(draft, room, name)
@@ -122,6 +130,7 @@ impl<D: Disk> Folder<D> {
         ensures law { IsHonest (D.faithful self.old.disk) Standing.Settled (D.state self.old.disk)
             → Keeps (Comes room name.now None) (D.state self.old.disk) result (D.state self.new.disk) }
         ensures cause { HasCause (D.failed self.old.disk) result (D.failed self.new.disk) }
+        ensures failed { (self.new.has_failed ≡ true) ↔ ((self.old.has_failed ≡ true) ⊎ IsErr result) }
     {
         let taken = self.disk.unlink(room, name);
         if matches!(taken, Ok(false)) {
@@ -141,6 +150,10 @@ impl<D: Disk> Folder<D> {
         ensures honest { IsHonest (D.faithful self.old.disk) self.old.standing (D.state self.old.disk)
             → IsHonest (D.faithful self.new.disk) self.new.standing (D.state self.new.disk) }
         ensures cause { HasCause (D.failed self.old.disk) result (D.failed self.new.disk) }
+        ensures remembered { self.old.has_failed ≡ true → self.new.has_failed ≡ true }
+        ensures quiet { OnOk result (self.new.has_failed ≡ self.old.has_failed) }
+        ensures noted { IsHonest (D.faithful self.old.disk) self.old.standing (D.state self.old.disk)
+            → OnErr result ((self.new.has_failed ≡ true) ⊎ Stays (D.state self.old.disk) (D.state self.new.disk)) }
     {
         self.settle()?;
         self.take_settled(room, name)
@@ -153,6 +166,10 @@ impl<D: Disk> Folder<D> {
         ensures honest { IsHonest (D.faithful self.old.disk) self.old.standing (D.state self.old.disk)
             → IsHonest (D.faithful self.new.disk) self.new.standing (D.state self.new.disk) }
         ensures cause { HasCause (D.failed self.old.disk) result (D.failed self.new.disk) }
+        ensures remembered { self.old.has_failed ≡ true → self.new.has_failed ≡ true }
+        ensures quiet { OnOk result (self.new.has_failed ≡ self.old.has_failed) }
+        ensures noted { IsHonest (D.faithful self.old.disk) self.old.standing (D.state self.old.disk)
+            → OnErr result ((self.new.has_failed ≡ true) ⊎ Stays (D.state self.old.disk) (D.state self.new.disk)) }
     {
         let Some(found) = self.read(room, name)? else {
             return Ok(());
@@ -178,6 +195,10 @@ impl<D: Disk> Folder<D> {
         ensures honest { IsHonest (D.faithful self.old.disk) self.old.standing (D.state self.old.disk)
             → IsHonest (D.faithful self.new.disk) self.new.standing (D.state self.new.disk) }
         ensures cause { HasCause (D.failed self.old.disk) result (D.failed self.new.disk) }
+        ensures remembered { self.old.has_failed ≡ true → self.new.has_failed ≡ true }
+        ensures quiet { OnOk result (self.new.has_failed ≡ self.old.has_failed) }
+        ensures noted { IsHonest (D.faithful self.old.disk) self.old.standing (D.state self.old.disk)
+            → OnErr result ((self.new.has_failed ≡ true) ⊎ Stays (D.state self.old.disk) (D.state self.new.disk)) }
     {
         if !self.has(room, name)? {
             return self.keep(draft, room, name, bytes);

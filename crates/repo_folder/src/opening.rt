@@ -1,6 +1,6 @@
 //! A store's folder is opened, or made.
 
-ghost use Rattle.std.specs.Prelude.{◌≡◌, ◌≢◌, ◌⊎◌, ◌≤◌, IfOk, IfErr, OnOk, OnErr};
+ghost use Rattle.std.specs.Prelude.{◌≡◌, ◌≢◌, ◌⊎◌, ◌≤◌, false, IfOk, IfErr, OnOk, OnErr};
 ghost use Rattle.repo_disk.specs.Disks as disks;
 ghost use Rattle.repo_disk.specs.declared.rooms.Room.{Room};
 ghost use Rattle.repo_folder.specs.Folders.{IsHonest, IsMade, IsUntouched, Stays};
@@ -78,6 +78,7 @@ where
         (λ e. Stays (D.state disk) (D.state e.disk) × IsHonest (D.faithful e.disk) Standing.Unsettled (D.state e.disk)) }
     ensures cause { IfErr result (λ e. IsCaused (D.failed disk) e.error (D.failed e.disk)) }
     ensures count { IfOk result (λ folder. D.failed disk ≤ D.failed folder.disk) }
+    ensures anew { IfOk result (λ folder. folder.has_failed ≡ false) }
 {
     let mut disk = disk;
     match told(make_all(&mut disk)) {
@@ -97,6 +98,7 @@ fn begin_ledger<D: Disk>(folder: &mut Folder<D>, alloc: Global) -> Result<(), Sh
     ensures err { IsHonest (D.faithful folder.old.disk) folder.old.standing (D.state folder.old.disk)
         → OnErr result (Stays (D.state folder.old.disk) (D.state folder.new.disk) ⊎ BeginsLedger (D.state folder.old.disk) (D.state folder.new.disk)) }
     ensures cause { HasCause (D.failed folder.old.disk) result (D.failed folder.new.disk) }
+    ensures quiet { OnOk result (folder.new.has_failed ≡ folder.old.has_failed) }
 {
     if told(folder.has(Room::Top, LEDGER))? {
         return Ok(());
@@ -107,7 +109,7 @@ fn begin_ledger<D: Disk>(folder: &mut Folder<D>, alloc: Global) -> Result<(), Sh
 
 impl<D: Disk + Drop> DirShelf<D> {
     /// The shelf of a store that is made on this disk, where nothing is kept yet but what a making that was cut off
-    /// left: its folders and, last, a fresh ledger. A ledger that is there, whatever it is, stays, and so does all else.
+    /// left: its folders and, last, a fresh ledger. Files that are no store's may be there, too. A ledger that is there, whatever it is, stays, and so does all else.
     /// Where it fails the disk is given back, with all that was kept there, and with the ledger or without.
     pub fn create(disk: D, alloc: Global) -> Result<DirShelf<D>, Unopened<D>>
         ensures honest { IsHonest (D.faithful disk) Standing.Unsettled (D.state disk) → IsBegun (D.state disk).fate → IfOk result
@@ -121,6 +123,7 @@ impl<D: Disk + Drop> DirShelf<D> {
             × IsHonest (D.faithful e.disk) Standing.Unsettled (D.state e.disk)) }
         ensures cause { IfErr result (λ e. IsCaused (D.failed disk) e.error (D.failed e.disk)) }
         ensures count { IfOk result (λ shelf. D.failed disk ≤ D.failed shelf.folder.disk) }
+        ensures anew { IfOk result (λ shelf. shelf.folder.has_failed ≡ false) }
     {
         let mut folder = make_folders(disk)?;
         match begin_ledger(&mut folder, alloc) {
