@@ -1,3 +1,4 @@
 pub mod Cuts
 pub mod Disks
+pub mod Drafts
 pub mod Memory

@@ -2,6 +2,7 @@
 
 ghost use Rattle.std.specs.Prelude.{◌≡◌, ◌≤◌, ℕ, IfOk, is_some};
 ghost use Rattle.repo_disk.specs.Disks.{State, seen, Looks, Makes, Drafts, DraftLasts, ChangesDrafts, Places, Takes, MakesRoom, Syncs, IsCut, IsPart, HasLength, IsListing, HasCause};
+ghost use Rattle.repo_disk.specs.Drafts.{IsDraft};
 
 use crate::files::Part;
 use crate::rooms::Room;
@@ -32,7 +33,8 @@ impl From<AllocError> for DiskError {
 }
 
 /// The folders of a store on a disk to which nobody else writes. What its calls promise holds where it is faithful,
-/// which each call keeps. A name is a text without `/`.
+/// which each call keeps. A name is a text without `/`; that of a file which is being written ends as one of those
+/// (`IsDraft`).
 pub trait Disk {
     /// What has each name, what it comes to, and which folders last.
     ghost state: { Self → State };
@@ -74,24 +76,28 @@ pub trait Disk {
 
     /// Writes a file whole among those that are being written, in place of one of this name.
     fn draft(&mut self, name: &str, bytes: &[u8]) -> Result<(), DiskError>
+        requires { IsDraft name.now }
         ensures law { faithful self.old → Drafts name.now bytes.now (state self.old) result (state self.new) }
         ensures cause { HasCause (failed self.old) result (failed self.new) }
         ensures faithful { faithful self.old → faithful self.new };
 
     /// Syncs the file that was written there, so that its bytes last.
     fn sync_draft(&mut self, name: &str) -> Result<(), DiskError>
+        requires { IsDraft name.now }
         ensures law { faithful self.old → DraftLasts name.now (state self.old) result (state self.new) }
         ensures cause { HasCause (failed self.old) result (failed self.new) }
         ensures faithful { faithful self.old → faithful self.new };
 
     /// Removes a file that was being written, as far as that can be done.
     fn discard(&mut self, name: &str)
+        requires { IsDraft name.now }
         ensures law { faithful self.old → ChangesDrafts (state self.old) (state self.new) }
         ensures count { failed self.old ≤ failed self.new }
         ensures faithful { faithful self.old → faithful self.new };
 
     /// Renames the file that was written there into its place.
     fn place(&mut self, draft: &str, room: Room, name: &str) -> Result<(), DiskError>
+        requires { IsDraft draft.now }
         ensures law { faithful self.old → Makes (Places draft.now room name.now) (state self.old) result (state self.new) }
         ensures cause { HasCause (failed self.old) result (failed self.new) }
         ensures faithful { faithful self.old → faithful self.new };

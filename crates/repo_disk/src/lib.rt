@@ -7,7 +7,8 @@
 //! content that a cut may leave, in plain words, is what the names come to in some run, and no other content is. Not promised: that a disk of the outside world is faithful.
 //!
 //! The definitions stand in `specs/`: `Disks` (what a disk has, what that comes to, and what each call does to it),
-//! `Cuts` (what a cut may leave, in plain words, and the laws), `Memory` (what a disk in memory has).
+//! `Cuts` (what a cut may leave, in plain words, and the laws), `Drafts` (names of files that are
+//! being written), `Memory` (what a disk in memory has).
 #![tactic(auto)]
 
 mod choices;

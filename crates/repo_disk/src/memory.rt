@@ -16,8 +16,8 @@ use crate::young::Young;
 use repo_name::{Bytes, Text};
 use std::alloc::{AllocError, Global};
 
-/// A disk in memory. What its coming calls do, and what a cut leaves, is chosen before: each call takes the next
-/// choice, and succeeds and lasts where none is left.
+/// A disk in memory. What its coming calls do, and what a cut leaves, is chosen before: each call but `discard` takes
+/// the next choice, and succeeds and lasts where none is left. No clause says so: it is read off the code.
 #[derive(Debug, Drop)]
 pub struct MemDisk {
     /// What the names were given, the newest first.

@@ -1,4 +1,3 @@
-pub mod Drafts
 pub mod Folders
 pub mod Laws
 pub mod Ledgers

@@ -2,6 +2,7 @@
 
 ghost use Rattle.std.specs.Prelude.{◌≡◌, ◌≤◌, ◌⊎◌, ◌↔◌, ℕ, List, Some, None, true, false, IsErr, OnOk, OnErr};
 ghost use Rattle.repo_disk.specs.Disks.{HasCause, ChangesDrafts, Makes, Places};
+ghost use Rattle.repo_disk.specs.Drafts.{IsDraft};
 ghost use Rattle.repo_disk.specs.declared.rooms.Room.{Room};
 ghost use Rattle.repo_folder.specs.Folders.{IsKept, IsHonest, Stays, Comes, Puts, Keeps, noted};
 ghost use Rattle.repo_folder.specs.declared.folders.Standing.{Standing};
@@ -22,6 +23,7 @@ fn noted(synced: &Result<(), DiskError>) -> Standing
 impl<D: Disk> Folder<D> {
     /// Writes a file among those that are being written, so that its bytes last.
     fn write(&mut self, draft: &str, bytes: &[u8]) -> Result<(), DiskError>
+        requires { IsDraft draft.now }
         ensures drafts { D.faithful self.old.disk → ChangesDrafts (D.state self.old.disk) (D.state self.new.disk) }
         ensures faithful { D.faithful self.old.disk → D.faithful self.new.disk }
         ensures ok { D.faithful self.old.disk
@@ -36,6 +38,7 @@ impl<D: Disk> Folder<D> {
 
     /// The same, once all that is visible lasts. Where it fails, what was written is removed, as far as that can be done.
     fn prepare(&mut self, draft: &str, bytes: &[u8]) -> Result<(), DiskError>
+        requires { IsDraft draft.now }
         ensures honest { IsHonest (D.faithful self.old.disk) self.old.standing (D.state self.old.disk)
             → IsHonest (D.faithful self.new.disk) self.new.standing (D.state self.new.disk) }
         ensures same { IsHonest (D.faithful self.old.disk) self.old.standing (D.state self.old.disk) → Stays (D.state self.old.disk) (D.state self.new.disk) }
@@ -55,7 +58,8 @@ impl<D: Disk> Folder<D> {
     /// Renames the file that was written into its place. Where that fails, what is left of it is removed, as far as that
     /// can be done.
     fn place(&mut self, draft: &str, room: Room, name: &str) -> Result<(), DiskError>
-        requires { IsKept room }
+        requires draft { IsDraft draft.now }
+        requires kept { IsKept room }
         ensures law { D.faithful self.old.disk → Makes (Places draft.now room name.now) (D.state self.old.disk) result (D.state self.new.disk) }
         ensures faithful { D.faithful self.old.disk → D.faithful self.new.disk }
         ensures cause { HasCause (D.failed self.old.disk) result (D.failed self.new.disk) }
@@ -82,7 +86,8 @@ impl<D: Disk> Folder<D> {
 
     /// Gives the file that was written its name, so that it lasts.
     fn give(&mut self, draft: &str, room: Room, name: &str) -> Result<(), DiskError>
-        requires { IsKept room }
+        requires draft { IsDraft draft.now }
+        requires kept { IsKept room }
         ensures honest { (bytes : List ℕ) → (D.state self.old.disk).now Room.Temporary draft.now ≡ Some (record { bytes = bytes; lasts = true })
             → IsHonest (D.faithful self.old.disk) Standing.Settled (D.state self.old.disk)
             → IsHonest (D.faithful self.new.disk) self.new.standing (D.state self.new.disk) }
@@ -107,7 +112,8 @@ impl<D: Disk> Folder<D> {
         name: &str,
         bytes: &[u8],
     ) -> Result<(), DiskError>
-        requires { IsKept room }
+        requires draft { IsDraft draft.now }
+        requires kept { IsKept room }
         ensures law { IsHonest (D.faithful self.old.disk) self.old.standing (D.state self.old.disk)
             → Keeps (Comes room name.now (Some bytes.now)) (D.state self.old.disk) result (D.state self.new.disk) }
         ensures honest { IsHonest (D.faithful self.old.disk) self.old.standing (D.state self.old.disk)
@@ -161,7 +167,8 @@ impl<D: Disk> Folder<D> {
 
     /// Keeps a file anew that is there, if it has these bytes.
     fn renew(&mut self, draft: &str, room: Room, name: &str, bytes: &[u8]) -> Result<(), DiskError>
-        requires { IsKept room }
+        requires draft { IsDraft draft.now }
+        requires kept { IsKept room }
         ensures same { IsHonest (D.faithful self.old.disk) self.old.standing (D.state self.old.disk) → Stays (D.state self.old.disk) (D.state self.new.disk) }
         ensures honest { IsHonest (D.faithful self.old.disk) self.old.standing (D.state self.old.disk)
             → IsHonest (D.faithful self.new.disk) self.new.standing (D.state self.new.disk) }
@@ -189,7 +196,8 @@ impl<D: Disk> Folder<D> {
         name: &str,
         bytes: &[u8],
     ) -> Result<(), DiskError>
-        requires { IsKept room }
+        requires draft { IsDraft draft.now }
+        requires kept { IsKept room }
         ensures law { IsHonest (D.faithful self.old.disk) self.old.standing (D.state self.old.disk)
             → Keeps (Puts room name.now bytes.now) (D.state self.old.disk) result (D.state self.new.disk) }
         ensures honest { IsHonest (D.faithful self.old.disk) self.old.standing (D.state self.old.disk)

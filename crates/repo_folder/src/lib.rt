@@ -11,8 +11,8 @@
 //! Not promised: that a disk of the outside world is faithful, and that nobody else writes to it.
 //!
 //! The definitions stand in `specs/`: `Folders` (what a folder asks of its disk, and what its calls do), `Spelling` (the
-//! store that files spell), `Ledgers` (the ledger that bytes spell), `Drafts` (names of files that are being written),
-//! `Listings` (names of objects in a folder), `Lives` (what calls, kills and cuts come to), `Laws`.
+//! store that files spell), `Ledgers` (the ledger that bytes spell), `Listings` (names of objects in a folder), `Lives`
+//! (what calls, kills and cuts, one after another, come to), `Laws`.
 #![tactic(auto)]
 
 mod dir_shelf;

@@ -1,7 +1,7 @@
 //! Where the files of a store stand.
 
 ghost use Rattle.std.specs.Prelude.{◌≡◌, ◌↔◌, IfOk, IsTrue, string_bytes};
-ghost use Rattle.repo_folder.specs.Drafts.{IsDraft, draft_of};
+ghost use Rattle.repo_disk.specs.Drafts.{IsDraft, draft_of};
 ghost use Rattle.repo_folder.specs.Folders.{IsKept};
 ghost use Rattle.repo_folder.specs.Spelling.{room_of};
 
@@ -35,7 +35,8 @@ pub fn room_of(kind: Kind, name: &Name) -> Room
 
 /// The name of a file while it is written.
 pub fn draft_of(alloc: Global, name: &str) -> Result<String, AllocError>
-    ensures { IfOk result (λ draft. string_bytes draft ≡ draft_of name.now) }
+    ensures name { IfOk result (λ draft. string_bytes draft ≡ draft_of name.now) }
+    ensures draft { IfOk result (λ draft. IsDraft (string_bytes draft)) }
 {
     let mut draft = String::from_str(alloc, name)?;
     draft.push_str(ENDING)?;

@@ -60,3 +60,6 @@ returns-clause-ok g c h = (made g c h).0
 
 pub returns-clause-err : goal.returns-clause-err
 returns-clause-err g c h = (made g c h).1
+
+pub keep-requires-clause-draft : goal.keep-requires-clause-draft
+keep-requires-clause-draft g c = (ledger_name, refl)

@@ -1,4 +1,4 @@
-use Rattle.std.proofs.Common.{Some}
+use Rattle.std.proofs.Common.{Some, refl}
 use Rattle.repo_disk.specs.Disks.{State}
 use Rattle.repo_disk.specs.declared.rooms.Room.{Room}
 use Rattle.repo_store.specs.Stores.{SavesConfig}
@@ -14,3 +14,6 @@ returns-clause-law g c h =
     let new = g.D.Disk.state c.keep.new.self.disk in
     let W : State → State → Type 0 = Comes Room.Top config_name (Some bytes) in
     kept_told old new W (SavesConfig bytes) (saves_config old new bytes) c.keep.result c.told.result c.told.ensures (c.keep.ensures.law h.0)
+
+pub keep-requires-clause-draft : goal.keep-requires-clause-draft
+keep-requires-clause-draft g c = (config_name, refl)

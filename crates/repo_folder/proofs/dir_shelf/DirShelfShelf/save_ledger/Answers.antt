@@ -1,4 +1,4 @@
-use Rattle.std.proofs.Common.{◌≡◌, ◌∙◌, Some, subst}
+use Rattle.std.proofs.Common.{◌≡◌, ◌∙◌, Some, subst, refl}
 use Rattle.repo_locks.specs.LedgerBytes.{ledger_bytes}
 use Rattle.repo_disk.specs.Disks.{State}
 use Rattle.repo_disk.specs.declared.rooms.Room.{Room}
@@ -17,3 +17,6 @@ returns-clause-law g c h =
     let W : State → State → Type 0 = Comes Room.Top ledger_name (Some (ledger_bytes ledger)) in
     kept_told old new W (SavesTokens ledger) (saves_tokens old new ledger c.in_ok-bytes.ensures.lawful) c.keep.result c.told.result c.told.ensures
     (subst (λ text. Keeps (Comes Room.Top ledger_name (Some text)) old c.keep.result new) bytes (c.keep.ensures.law h.0))
+
+pub keep-requires-clause-draft : goal.keep-requires-clause-draft
+keep-requires-clause-draft g c = (ledger_name, refl)

@@ -11,7 +11,7 @@ returns-in_err-placed-clause-honest g c bytes was h =
     let state = g.D.Disk.state in
     let keeps = placed.faithful h.faithful in
     rw (c.note.ensures.standing, c.note.ensures.disk) (honest_placed (faithful c.args.self.now.disk) (faithful c.sync-synced.new.self) c.args.room c.args.name.now (state c.args.self.now.disk) (state c.place-placed.new.self.disk)
-    (state c.sync-synced.new.self) h (synced.faithful keeps) c.requires c.args.draft.now bytes was c.place-placed.result c.sync-synced.result (placed.law h.faithful) (synced.law keeps))
+    (state c.sync-synced.new.self) h (synced.faithful keeps) c.requires.kept c.args.draft.now bytes was c.place-placed.result c.sync-synced.result (placed.law h.faithful) (synced.law keeps))
 
 pub returns-clause-failed : goal.returns-clause-failed
 returns-clause-failed g c =
