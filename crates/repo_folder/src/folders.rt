@@ -1,9 +1,9 @@
 //! A store's folder on a disk, and the files that are kept in it.
 
-ghost use Rattle.std.specs.Prelude.{◌≡◌, ◌≤◌, ℕ, List, Some, None, true, false, IsOk, OnOk, IfOk, is_some};
+ghost use Rattle.std.specs.Prelude.{◌≡◌, ◌≤◌, ◌⊎◌, ◌↔◌, ℕ, List, Some, None, true, false, IsOk, IsErr, OnOk, IfOk, is_some};
 ghost use Rattle.repo_disk.specs.Disks.{State, seen, IsPart, IsListing, HasLength, HasCause, ChangesDrafts};
 ghost use Rattle.repo_disk.specs.declared.rooms.Room.{Room};
-ghost use Rattle.repo_folder.specs.Folders.{IsKept, IsHonest, IsSteady, Stays, IsListed, Shows};
+ghost use Rattle.repo_folder.specs.Folders.{IsKept, IsHonest, IsSteady, Stays, IsListed, Shows, noted};
 ghost use Rattle.repo_folder.specs.declared.folders.Standing.{Standing};
 
 use crate::syncing::sync_all;
@@ -23,9 +23,19 @@ pub enum Standing {
 #[derive(Debug, Drop)]
 pub struct Folder<D> {
     pub disk: D,
-    pub(crate) standing: Standing,
+    standing: Standing,
     /// Whether a change failed since it was opened.
-    pub(crate) has_failed: bool,
+    has_failed: bool,
+}
+
+/// What is known of all that is visible after a sync of what had changed.
+fn noted(synced: &Result<(), DiskError>) -> Standing
+    ensures { result ≡ noted synced.now }
+{
+    match synced {
+        Ok(()) => Standing::Settled,
+        Err(_) => Standing::Unsettled,
+    }
 }
 
 impl<D: Disk> Folder<D> {
@@ -55,6 +65,25 @@ impl<D: Disk> Folder<D> {
         sync_all(&mut self.disk)?;
         self.standing = Standing::Settled;
         Ok(())
+    }
+
+    /// Notes what came of a change, which lasts where it and the sync of its folder came to their ends.
+    pub(crate) fn note(&mut self, is_made: bool, synced: &Result<(), DiskError>)
+        ensures disk { self.new.disk ≡ self.old.disk }
+        ensures standing { self.new.standing ≡ noted synced.now }
+        ensures failed { (self.new.has_failed ≡ true) ↔ ((self.old.has_failed ≡ true) ⊎ ((is_made ≡ false) ⊎ IsErr synced.now)) }
+    {
+        self.standing = noted(synced);
+        if !is_made || synced.is_err() {
+            self.has_failed = true;
+        }
+    }
+
+    /// Whether a change failed since it was opened.
+    pub(crate) fn has_failed(&self) -> bool
+        ensures { result ≡ self.now.has_failed }
+    {
+        self.has_failed
     }
 
     /// A file's bytes, whole; `None` where nothing has the name.

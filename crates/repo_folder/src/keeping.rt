@@ -7,18 +7,8 @@ ghost use Rattle.repo_disk.specs.declared.rooms.Room.{Room};
 ghost use Rattle.repo_folder.specs.Folders.{IsKept, IsHonest, Stays, Comes, Puts, Keeps, noted};
 ghost use Rattle.repo_folder.specs.declared.folders.Standing.{Standing};
 
-use crate::folders::{Folder, Standing};
+use crate::folders::Folder;
 use repo_disk::{Disk, DiskError, Room};
-
-/// What is known of all that is visible after a sync of what had changed.
-fn noted(synced: &Result<(), DiskError>) -> Standing
-    ensures { result ≡ noted synced.now }
-{
-    match synced {
-        Ok(()) => Standing::Settled,
-        Err(_) => Standing::Unsettled,
-    }
-}
 
 impl<D: Disk> Folder<D> {
     /// Writes a file among those that are being written, so that its bytes last.
@@ -70,18 +60,6 @@ impl<D: Disk> Folder<D> {
             self.disk.discard(draft);
         }
         placed
-    }
-
-    /// Notes what came of a change, which lasts where it and the sync of its folder came to their ends.
-    fn note(&mut self, is_made: bool, synced: &Result<(), DiskError>)
-        ensures disk { self.new.disk ≡ self.old.disk }
-        ensures standing { self.new.standing ≡ noted synced.now }
-        ensures failed { (self.new.has_failed ≡ true) ↔ ((self.old.has_failed ≡ true) ⊎ ((is_made ≡ false) ⊎ IsErr synced.now)) }
-    {
-        self.standing = noted(synced);
-        if !is_made || synced.is_err() {
-            self.has_failed = true;
-        }
     }
 
     /// Gives the file that was written its name, so that it lasts.
@@ -211,7 +189,7 @@ impl<D: Disk> Folder<D> {
         if !self.has(room, name)? {
             return self.keep(draft, room, name, bytes);
         }
-        if !self.has_failed {
+        if !self.has_failed() {
             return Ok(());
         }
         self.renew(draft, room, name, bytes)

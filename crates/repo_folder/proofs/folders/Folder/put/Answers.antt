@@ -8,8 +8,8 @@ returns-then-not-branch-clause-law g c h =
     puts_after c.args.room c.args.name.now (Some c.args.bytes.now) (g.D.Disk.state c.args.self.now.disk) (g.D.Disk.state c.has.new.self.disk) (g.D.Disk.state c.keep.new.self.disk) law.1 c.args.bytes.now refl
     (none_there _ (sym law.0 ∙ c.if-not-branch.true)) c.keep.result (c.keep.ensures.law (c.in_ok-has.ensures.honest h))
 
-pub returns-then-not-self-clause-law : goal.returns-then-not-self-clause-law
-returns-then-not-self-clause-law g c h =
+pub returns-then-not-has_failed-clause-law : goal.returns-then-not-has_failed-clause-law
+returns-then-not-has_failed-clause-law g c h =
     let law = c.in_ok-has.ensures.law h in
     puts_there c.args.room c.args.name.now None (g.D.Disk.state c.args.self.now.disk) (g.D.Disk.state c.has.new.self.disk) (g.D.Disk.state c.has.new.self.disk) law.1 c.args.bytes.now (sym law.0 ∙ c.if-not-branch.false)
 
