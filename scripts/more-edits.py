@@ -10,7 +10,8 @@ An edit that turns functions of src/ is tried as one of the gate is: in a check 
 turns anything else, as a definition, and what such a check doesn't say of its functions, is tried alone, in a check of the crate.
 
 It goes over the libraries that were built here (rt lib in the crate, which builds those below), and over what was kept of the crate's
-own proof. The last line is 'N refused, M not'.
+own proof. In the highest crates a check of thirty edits takes up to 10 GB: let one go at a time there. The last line is
+'N refused, M not'.
 
 Where each edit in more-edits/CRATE was refused, more-edits/TRIED has a line of it: the crate, how many they were, and the digest of
 these edits and of the crate's sources, contracts and proofs. --stale tells the crates without a line, or whose files are others now.
