@@ -1,15 +1,35 @@
 //! Both ends of a connection, as one.
 
 ghost use Rattle.std.specs.Prelude.{◌≡◌, ◌≤◌, ◌<◌, [], ℕ, List, length, take, IfOk, OnOk, OnErr};
+ghost use Rattle.std.specs.Io.KnownBytes.{Consumes, IsAtEnd};
 
 use crate::output::{Unwritten, write_whole};
-use std::io::{Read, Write};
+use std::io::{ErrorKind, Read, Write};
 use thiserror::Error;
 
 /// The other end failed, and brought nothing.
 #[derive(Clone, Copy, Debug, PartialEq, Eq, Error)]
 #[error("read failed")]
 pub struct Unheard;
+
+/// Reads what comes next, as much as fits the piece at most, and gives how much; 0 only at the end, where the piece has room. A
+/// read that was interrupted is made again: a socket that has a time-out interrupts it after its process was suspended, and
+/// nothing was read then.
+fn read_some<R: Read>(reader: &mut R, piece: &mut [u8]) -> Result<usize, Unheard>
+    ensures count { IfOk result (λ n. n ≤ length piece.new) }
+    ensures ok { IfOk result (λ n. Consumes (R.remaining reader.old) (R.remaining reader.new) (take n piece.new)) }
+    ensures over { IfOk result (λ n. n ≡ 0 → 0 < length piece.new → IsAtEnd (R.remaining reader.new)) }
+    ensures err { OnErr result (Consumes (R.remaining reader.old) (R.remaining reader.new) []) }
+{
+    for _ in 0..u64::MAX {
+        match reader.read(piece) {
+            Ok(n) => return Ok(n),
+            Err(error) if error.kind() == ErrorKind::Interrupted => {}
+            Err(_) => return Err(Unheard),
+        }
+    }
+    Err(Unheard)
+}
 
 /// Both ends of a connection: what is heard comes from one, and what is said goes to the other. As they are one, a clause tells
 /// in which order it was.
@@ -54,10 +74,7 @@ impl<R: Read, W: Write> Channel for Ends<'_, R, W> {
     ghost is_over = { λ a. IsAtEnd (R.remaining a.reader.now) };
 
     fn hear(&mut self, piece: &mut [u8]) -> Result<usize, Unheard> {
-        match self.reader.read(piece) {
-            Ok(count) => Ok(count),
-            Err(_) => Err(Unheard),
-        }
+        read_some(self.reader, piece)
     }
 
     fn say(&mut self, bytes: &[u8]) -> Result<(), Unwritten> {
