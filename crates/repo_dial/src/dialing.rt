@@ -4,7 +4,7 @@ ghost use Rattle.std.specs.Prelude.{◌≡◌, ◌≤◌, ◌↔◌, ◌∷◌, 
 ghost use Rattle.repo_dial.specs.Dialing.{Connections, Dials, HangsUp, once};
 
 use crate::ends::{KnownChannel, Pair, pair_of};
-use std::net::{Net, OpenStream, TcpStream};
+use std::net::{Net, OpenStream, TcpStream, ToSocketAddrs};
 use std::time::Duration;
 
 /// A way to connect to a server, which may be asked for one connection after another.
@@ -33,25 +33,39 @@ pub struct Address<'a, T: Net> {
     ready: Option<Pair<T::Stream, T::Stream>>,
 }
 
-/// Connects to an address. What is written goes at once: else the bytes of a put would wait until its head, which is written before
-/// them, was acknowledged. Where that can't be set they wait.
+/// A stream to the first of an address's hosts that answers. With a time for `idle` each of them has as long to answer; without it the
+/// system's own limit holds. How long a name is looked up is the system's affair.
+fn stream_to<T: Net>(rt: &T, address: &str, idle: Option<Duration>) -> Option<T::Stream> {
+    let Some(idle) = idle else {
+        return TcpStream::connect(rt, address).ok();
+    };
+    let Ok(hosts) = address.to_socket_addrs(rt) else {
+        return None;
+    };
+    for host in hosts {
+        if let Ok(stream) = TcpStream::connect_timeout(rt, &host, idle) {
+            return Some(stream);
+        }
+    }
+    None
+}
+
+/// Connects to an address. With a time for `idle` each host of the address has as long to answer. What is written goes at once.
+/// Otherwise the bytes of a put would wait until the head, which is written before them, was acknowledged. If that can't be set,
+/// they wait.
 fn connect<T: Net>(
     rt: &T,
     address: &str,
     idle: Option<Duration>,
 ) -> Option<Pair<T::Stream, T::Stream>> {
-    match TcpStream::connect(rt, address) {
-        Ok(stream) => {
-            let _ = stream.set_nodelay(true);
-            pair_of(stream, idle)
-        }
-        Err(_) => None,
-    }
+    let stream = stream_to(rt, address, idle)?;
+    let _ = stream.set_nodelay(true);
+    pair_of(stream, idle)
 }
 
 impl<'a, T: Net> Address<'a, T> {
-    /// An address, to which nothing is connected yet. With a time for `idle` each read and each write of its connections
-    /// fails that waits for longer.
+    /// An address, to which nothing is connected yet. With a time for `idle` it fails to connect if no host of the address
+    /// answers in that time, and a read or a write of its connections fails if it waits for longer.
     pub fn new(rt: &'a T, address: &'a str, idle: Option<Duration>) -> Address<'a, T>
         ensures address { result.address.now ≡ address.now }
         ensures idle { result.idle ≡ idle }

@@ -4,7 +4,7 @@ ghost use Rattle.std.specs.Prelude.{◌≡◌, ◌∷◌, [], ℕ, List, IfSome}
 ghost use Rattle.repo_store.specs.Channels.{heard, said};
 ghost use Rattle.repo_dial.specs.Ends.{ConnectionEnds, GoesBy};
 
-use repo_store::{Channel, Unheard, Unwritten, write_whole};
+use repo_store::{Channel, Ends, Unheard, Unwritten, write_whole};
 use std::io;
 use std::io::{Read, Write};
 use std::net::OpenStream;
@@ -40,10 +40,11 @@ impl<R: Read + Drop, W: Write + Drop> Channel for Pair<R, W> {
     ghost is_over = { λ a. IsAtEnd (R.remaining a.reader) };
 
     fn hear(&mut self, piece: &mut [u8]) -> Result<usize, Unheard> {
-        match self.reader.read(piece) {
-            Ok(count) => Ok(count),
-            Err(_) => Err(Unheard),
-        }
+        let mut ends = Ends {
+            reader: &mut self.reader,
+            writer: &mut self.writer,
+        };
+        ends.hear(piece)
     }
 
     fn say(&mut self, bytes: &[u8]) -> Result<(), Unwritten> {
