@@ -1,5 +1,5 @@
 -- What stays known over an exchange that lists and reads nothing.
-use Rattle.std.proofs.Common.{◌≡◌, ◌∷◌, [], ℕ, false, refl, subst, inr, ◌∙◌}
+use Rattle.std.proofs.Common.{◌≡◌, ◌∷◌, [], ℕ, false, refl, sym, subst, inr, ◌∙◌}
 use Rattle.std.specs.Prelude.{⊤}
 use Rattle.repo_name.specs.declared.kinds.Kind.{Kind}
 use Rattle.repo_store.specs.Pages.{Has}
@@ -13,8 +13,8 @@ use Rattle.repo_session.proofs.Deleting.{DeletesNone, ListsNone, listed_stays, l
 use Rattle.repo_session.proofs.Rolling.{paged_on}
 use Rattle.repo_writing.proofs.Filling.{config_later}
 use Rattle.repo_writing.proofs.PutLemmas.{objects_put_other}
-use Rattle.repo_prune.specs.Pruning.{IsUntouched}
-use Rattle.repo_prune.specs.PruneStates.{Known, HasOnlyListed, HaveRead, HasTarget}
+use Rattle.repo_prune.specs.Pruning.{ArePacksListed, HasOnlyListed, IsUntouched}
+use Rattle.repo_prune.specs.PruneStates.{Known, HaveRead, HasTarget}
 
 -- a request for a part of a pack, a put, or a delete
 abbrev pub IsAside : Ask → Type 0
@@ -57,7 +57,7 @@ aside_lists k e h = record { page = no_page k e.ask e.say h; last = no_last k e.
 
 -- all packs are listed where all was read
 pub packs_whole : (k : Known) (es : Trace) → HaveRead k es → IsListed Kind.Pack es
-packs_whole k es h = record { complete = h.packs.complete; rise = h.packs.rise }
+packs_whole k es h = record { complete = h.all.packs.complete; rise = h.all.packs.rise }
 
 -- what the config wants stays known
 pub target_later : (e : Exchange) (es : Trace) (bytes : ℕ) → HasTarget es bytes → HasTarget (e ∷ es) bytes
@@ -75,16 +75,22 @@ module _ (e : Exchange) (es : Trace) (aside : IsAside e.ask) where
         (r.0, r.1, (inr r.2.0, r.2.1), r.3);
   }
 
+  pub packs_listed_same : ArePacksListed es → ArePacksListed (e ∷ es)
+  packs_listed_same h fact read = subst (λ ns. Has ns fact.place.pack) (sym (names_stay Kind.Pack e es (aside_lists Kind.Pack e aside))) (h fact (fact_same fact read))
+
   pub read_same : (k : Known) → HaveRead k es → HaveRead k (e ∷ es)
   read_same k h =
       let packs = aside_lists Kind.Pack e aside in
       record {
-        snapshots = listing_stays e es k.rows (aside_lists Kind.Snapshot e aside) h.snapshots;
-        indexes = indexed_same h.indexes;
-        listed = names_stay Kind.Index e es (aside_lists Kind.Index e aside) ∙ h.listed;
-        gives = λ fact. (λ has. fact_stays e es fact ((h.gives fact).0 has), λ read. (h.gives fact).1 (fact_same fact read));
-        packs = paged_on Kind.Pack e k.packs _ es packs.page packs.last packs.ask h.packs;
-        target = target_later e es k.target h.target;
+        all = record {
+          snapshots = listing_stays e es k.rows (aside_lists Kind.Snapshot e aside) h.all.snapshots;
+          indexes = indexed_same h.all.indexes;
+          listed = names_stay Kind.Index e es (aside_lists Kind.Index e aside) ∙ h.all.listed;
+          gives = λ fact. (λ has. fact_stays e es fact ((h.all.gives fact).0 has), λ read. (h.all.gives fact).1 (fact_same fact read));
+          packs = paged_on Kind.Pack e k.packs _ es packs.page packs.last packs.ask h.all.packs;
+          target = target_later e es k.target h.all.target;
+        };
+        there = packs_listed_same h.there;
       }
 
 -- a request that neither puts nor deletes

@@ -26,6 +26,7 @@ pub mod Pending
 pub mod PruneStages
 pub mod PruneTrees
 pub mod PruneDeletes
+pub mod MissingPacks
 pub mod Pairs
 pub mod Firsts
 pub mod Unsent

@@ -40,7 +40,7 @@ use Rattle.repo_prune.specs.Pruning.{prune_rule, prune_task, AreCovered, AreRepl
 use Rattle.repo_prune.specs.declared.deleting.Deleting.{Deleting}
 use Rattle.repo_prune.specs.declared.prunes.Stage.{Stage}
 use Rattle.repo_prune.specs.declared.relisting.Relisting.{Relisting}
-use Rattle.repo_prune.proofs.Asides.{aside_lists, indexed_same, packs_whole}
+use Rattle.repo_prune.proofs.Asides.{aside_lists, indexed_same, packs_listed_same, packs_whole}
 use Rattle.repo_prune.proofs.Repacking.{one_taken}
 use Rattle.repo_prune.proofs.Those.{those_are, are_those, those_ascend}
 use Rattle.repo_prune.proofs.Ascending.{behind_first}
@@ -96,6 +96,7 @@ module _ (token : Token) (kind : Kind) (name : Name) (say : Say) (es : Trace) wh
         rows = h.rows;
         snapshots = listing_stays d es h.rows (aside_lists Kind.Snapshot d tt) h.snapshots;
         indexes = indexed_same d es tt h.indexes;
+        there = packs_listed_same d es tt h.there;
         done = λ k object among. put_done_later d es k object.name object.bytes (h.done k object (subst (λ os. Contains os object) (objects_same k) among));
         listed = lists_stay packs [] d es refl h.listed;
         full = h.full;
@@ -148,18 +149,18 @@ among_step m names n false q (inr none) = inr (λ h. elim (contained_or m names 
   | inr more ↦ none more
 ])
 
-among_or : (names : List Name) (n : Name) → Contains names n ⊎ (¬ Contains names n)
+pub among_or : (names : List Name) (n : Name) → Contains names n ⊎ (¬ Contains names n)
 among_or [] n = inr (λ h. none_contained n h)
 among_or (m ∷ names) n = among_step m names n (is_eq (name_cmp m n)) refl (among_or names n)
 
 -- a name isn't among them
-abbrev IsUnlike : List Name → Name → Type 0
+abbrev pub IsUnlike : List Name → Name → Type 0
 IsUnlike names n = IsTrue false ↔ Contains names n
 
-not_among : (names : List Name) (n : Name) → IsUnlike names n → ¬ Contains names n
+pub not_among : (names : List Name) (n : Name) → IsUnlike names n → ¬ Contains names n
 not_among names n h has = let never = h.1 has in absurd (cc)
 
-is_not_among : (names : List Name) (n : Name) → ¬ Contains names n → IsUnlike names n
+pub is_not_among : (names : List Name) (n : Name) → ¬ Contains names n → IsUnlike names n
 is_not_among names n none = (λ never. absurd (cc), λ has. absurd (none has))
 
 module _ (k : Known) (r : Relisting) (d : Deleting) (es : Trace) (h : HasListed k r es) (b : BeginsDeleting r k.indexes k.packs d) where
@@ -181,16 +182,16 @@ module _ (k : Known) (r : Relisting) (d : Deleting) (es : Trace) (h : HasListed 
       subst (AskedToPut es Kind.Index) found.2 asked
 
   lists_index : (n : Name) → Contains k.indexes n → Lists es Kind.Index n
-  lists_index n among = contained_has (names_in Kind.Index es) n (subst (λ ns. Contains ns n) (sym h.may.packed.read.listed) among)
+  lists_index n among = contained_has (names_in Kind.Index es) n (subst (λ ns. Contains ns n) (sym h.may.packed.read.all.listed) among)
 
   index_listed : (n : Name) → Lists es Kind.Index n → Contains k.indexes n
-  index_listed n lists = subst (λ ns. Contains ns n) h.may.packed.read.listed (has_contained (names_in Kind.Index es) n lists)
+  index_listed n lists = subst (λ ns. Contains ns n) h.may.packed.read.all.listed (has_contained (names_in Kind.Index es) n lists)
 
   lists_pack : (n : Name) → Contains k.packs n → Lists es Kind.Pack n
-  lists_pack n among = contained_has (names_in Kind.Pack es) n (subst (λ ns. Contains ns n) (sym h.may.packed.read.packs.listed) among)
+  lists_pack n among = contained_has (names_in Kind.Pack es) n (subst (λ ns. Contains ns n) (sym h.may.packed.read.all.packs.listed) among)
 
   pack_listed : (n : Name) → Lists es Kind.Pack n → Contains k.packs n
-  pack_listed n lists = subst (λ ns. Contains ns n) h.may.packed.read.packs.listed (has_contained (names_in Kind.Pack es) n lists)
+  pack_listed n lists = subst (λ ns. Contains ns n) h.may.packed.read.all.packs.listed (has_contained (names_in Kind.Pack es) n lists)
 
   pack_names : List Name
   pack_names = map (λ (listed : PackFacts). listed.pack) r.packs.items
@@ -209,8 +210,9 @@ module _ (k : Known) (r : Relisting) (d : Deleting) (es : Trace) (h : HasListed 
       record {
         settled = record {
           rows = k.rows;
-          snapshots = p.read.snapshots;
-          indexes = p.read.indexes;
+          snapshots = p.read.all.snapshots;
+          indexes = p.read.all.indexes;
+          there = p.read.there;
           done = all_done_now;
           listed = whole;
           full = some_fact;
@@ -231,8 +233,8 @@ module _ (k : Known) (r : Relisting) (d : Deleting) (es : Trace) (h : HasListed 
           | inl listed ↦ let found = map_contains (λ (q : PackFacts). q.pack) r.packs.items n listed in inl (found.0, found.1, found.2)
           | inr none ↦ inr (are_those (IsUnlike pack_names) k.packs d.packs.items n b.packs_are (pack_listed n lists) (is_not_among pack_names n none))
         ];
-        indexes_ascend = those_ascend (IsUnlike r.indexes.items) name_cmp k.indexes d.indexes.items b.indexes_are (ascending_sorted None k.indexes (subst (NamesAscend None) p.read.listed p.read.indexes.listed.rise.ascend));
-        packs_ascend = those_ascend (IsUnlike pack_names) name_cmp k.packs d.packs.items b.packs_are (ascending_sorted None k.packs (subst (NamesAscend None) p.read.packs.listed p.read.packs.rise.ascend));
+        indexes_ascend = those_ascend (IsUnlike r.indexes.items) name_cmp k.indexes d.indexes.items b.indexes_are (ascending_sorted None k.indexes (subst (NamesAscend None) p.read.all.listed p.read.all.indexes.listed.rise.ascend));
+        packs_ascend = those_ascend (IsUnlike pack_names) name_cmp k.packs d.packs.items b.packs_are (ascending_sorted None k.packs (subst (NamesAscend None) p.read.all.packs.listed p.read.all.packs.rise.ascend));
         blobs = r.counts.blobs;
         counted = subst (λ m. AreCounted es r.counts.blobs m) (sym b.bytes) counted;
       }

@@ -30,7 +30,7 @@ use Rattle.repo_session.specs.Received.{Received}
 use Rattle.repo_session.specs.Soundness.{IsHeld}
 use Rattle.repo_session.specs.Talks.{Talk, trace_of}
 use Rattle.repo_session.specs.Told.{AskedToPut}
-use Rattle.repo_session.specs.Traces.{Exchange, Trace, Object, WasAsked, Lists, ReadFact}
+use Rattle.repo_session.specs.Traces.{Exchange, Trace, Object, WasAsked, IsListed, Lists, ReadFact}
 use Rattle.repo_session.specs.Trees.{HasRoot, IsUnindexed}
 use Rattle.repo_session.proofs.Causes.{part_good}
 use Rattle.repo_session.proofs.Concluding.{IsSoundThroughout, calm_of, either, ends_well, known, puts_none}
@@ -42,9 +42,11 @@ use Rattle.repo_session.proofs.Enumerating.{listed_or_put}
 use Rattle.repo_session.proofs.Growing.{Led, Shares, led}
 use Rattle.repo_session.proofs.Spoken.{held_agree}
 use Rattle.repo_session.proofs.Telling.{seen_run}
+use Rattle.repo_session.proofs.Wholeness.{given_held}
 use Rattle.repo_writing.proofs.PutLemmas.{asked_put}
 use Rattle.repo_prune.specs.PruneLaws.{IsPrunedOrMemory, PruneEndsWell}
-use Rattle.repo_prune.specs.Pruning.{prune_task, IsUntouched, IsWanted, IsBadTree, PruneAllows, PruneGives, PruneConcludes}
+use Rattle.repo_prune.specs.Pruning.{prune_task, IsUntouched, IsWanted, IsBadTree, IsMissingPack, PruneAllows, PruneGives, PruneConcludes}
+use Rattle.repo_prune.proofs.Asides.{only_listed}
 use Rattle.repo_prune.proofs.ForgetRuns.{undeleted}
 use Rattle.repo_prune.proofs.PruneRuns.{throughout}
 
@@ -122,6 +124,18 @@ module _ (who : Asker) (from : Store) (fit : IsFit from) (agree : Agree (IsHeld 
       let fact : ReadFact (trace_of talk) held.fact = record { index = held.index; text = read.0; read = read.2; says = subst (λ (x : List ℕ). Says x held.fact) one held.says } in
       u.ungiven (held.fact, fact, held.of_kind, held.named ∙ b.named)
 
+  -- what an index that was read says, one that was there at first says, and its pack was there
+  pack_listed : (fact : Fact) → IsListed Kind.Pack (trace_of talk) → ReadFact (trace_of talk) fact → Lists (trace_of talk) Kind.Pack fact.place.pack
+  pack_listed fact listed read =
+      let there = first Kind.Index read.index read.text (shares.got Kind.Index read.index read.text read.read.0) in
+      let pack = given_held from.objects fit.sound read.index read.text fact there read.says in
+      let now : to.objects Kind.Pack fact.place.pack ≡ Some pack.pack = shares.kept Kind.Pack fact.place.pack pack.pack pack.there in
+      ⊎_elim (λ l. l) (λ p. absurd (unput p.0 Kind.Pack fact.place.pack p.1 p.2))
+      (listed_or_put (AskedToPut (trace_of talk)) (prune_task who) PruneAllows PruneGives Kind.Pack fact.place.pack (trace_of talk) to.objects pack.pack o (seen_run from talk to h) listed now)
+
+  no_missing_pack : (pack : Name) → IsMissingPack (trace_of talk) pack → ⊥
+  no_missing_pack pack m = m.unlisted (subst (Lists (trace_of talk) Kind.Pack) m.of_pack (pack_listed m.fact m.packs m.read))
+
 -- a fact whose blob is wanted is one that an index gives
 wanted_read : (es : Trace) (fact : Fact) → IsWanted es fact → ReadFact es fact
 wanted_read es fact wanted = (wanted.known.gives fact).0 wanted.copy.least.among
@@ -157,7 +171,11 @@ module _ (who : Asker) (from : Store) (fit : IsFit from) (agree : Agree (IsHeld 
   own_well talk to o h sound (Outcome.Ended (End.BadObject Thing.Pack name)) own = absurd (no_bad_part who from fit talk to o h sound Thing.Pack name own)
   own_well talk to o h sound (Outcome.Ended (End.BadObject Thing.Index name)) own = absurd (no_bad_part who from fit talk to o h sound Thing.Index name own)
   own_well talk to o h sound (Outcome.Ended (End.BadObject Thing.Snapshot name)) own = absurd (no_bad_part who from fit talk to o h sound Thing.Snapshot name own)
-  own_well talk to o h sound (Outcome.Ended (End.Missing thing name)) own = absurd (no_unindexed who from fit agree talk to o h own.0.untouched own.2.0 thing name own.2.2)
+  own_well talk to o h sound (Outcome.Ended (End.Missing Thing.Pack pack)) own = absurd (no_missing_pack who from fit agree talk to o h (only_listed (trace_of talk) own.0) pack own.1)
+  own_well talk to o h sound (Outcome.Ended (End.Missing Thing.Tree name)) own = absurd (no_unindexed who from fit agree talk to o h own.0.untouched own.2.0 Thing.Tree name own.2.2)
+  own_well talk to o h sound (Outcome.Ended (End.Missing Thing.Content name)) own = absurd (no_unindexed who from fit agree talk to o h own.0.untouched own.2.0 Thing.Content name own.2.2)
+  own_well talk to o h sound (Outcome.Ended (End.Missing Thing.Index name)) own = absurd (no_unindexed who from fit agree talk to o h own.0.untouched own.2.0 Thing.Index name own.2.2)
+  own_well talk to o h sound (Outcome.Ended (End.Missing Thing.Snapshot name)) own = absurd (no_unindexed who from fit agree talk to o h own.0.untouched own.2.0 Thing.Snapshot name own.2.2)
   own_well talk to o h sound (Outcome.Ended End.Busy) own = absurd own
   own_well talk to o h sound (Outcome.Ended End.Fenced) own = absurd own
   own_well talk to o h sound (Outcome.Ended (End.Refused code)) own = absurd own

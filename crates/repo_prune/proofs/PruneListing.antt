@@ -22,8 +22,8 @@ use Rattle.repo_session.proofs.Cataloguing.{are_indexed, catalog_on, rolled_on}
 use Rattle.repo_session.proofs.Rolling.{same_self}
 use Rattle.repo_session.proofs.Deleting.{ListsNone, listing_stays}
 use Rattle.repo_prune.specs.Keeping.{Row}
-use Rattle.repo_prune.specs.Pruning.{prune_rule, IsReadInTurn, IsWanted, PruneAllows}
-use Rattle.repo_prune.specs.PruneStates.{Known, HasOnlyListed, HaveRead, HasTarget, AreUnlisted, ReadsSnapshots, ReadsIndexes, ListsPacks, IsListingOf, KnowsPrune, KnowsStage, IsNextStep, KnowsAsMuch, HeedsFrom, StepsFrom, known_in}
+use Rattle.repo_prune.specs.Pruning.{prune_rule, HasOnlyListed, IsReadInTurn, IsWanted, PruneAllows}
+use Rattle.repo_prune.specs.PruneStates.{Known, AreAllListed, HasTarget, AreUnlisted, ReadsSnapshots, ReadsIndexes, ListsPacks, IsListingOf, KnowsPrune, KnowsStage, IsNextStep, KnowsAsMuch, HeedsFrom, StepsFrom, known_in}
 use Rattle.repo_prune.specs.declared.prunes.Onward.{Onward}
 use Rattle.repo_prune.specs.declared.prunes.Prune.{Prune}
 use Rattle.repo_prune.specs.declared.prunes.Stage.{Stage}
@@ -417,7 +417,7 @@ pack_page j es ask after is h =
 
 pub packs_listed : (j : Prune) (packs : Roll) (e : Exchange) (es : Trace) → IsListingOf Kind.Pack e.ask → HasOnlyListed es → IsSnapshotListing es j.snapshots.rows.items → Catalogs j.catalog true es → IsAll j.catalog
     → HasTarget es j.target.bytes → IsPaged Kind.Pack packs.names.items true (e ∷ es)
-    → HaveRead (record { rows = j.snapshots.rows.items; indexes = j.catalog.roll.names.items; facts = j.catalog.lookup; packs = packs.names.items; target = j.target.bytes }) (e ∷ es) × HasOnlyListed (e ∷ es)
+    → AreAllListed (record { rows = j.snapshots.rows.items; indexes = j.catalog.roll.names.items; facts = j.catalog.lookup; packs = packs.names.items; target = j.target.bytes }) (e ∷ es) × HasOnlyListed (e ∷ es)
 packs_listed j packs e es listing untouched rows catalog all target paged =
     let c = catalog_same Kind.Pack e es j.catalog true refl listing catalog in (
       record {

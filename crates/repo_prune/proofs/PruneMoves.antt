@@ -165,18 +165,19 @@ module _ (k : Known) (m n : Moving) (puts : List Put) (es : Trace) (r : IsRepack
   surveyed = record {
     none = r.none;
     rows = k.rows;
-    snapshots = r.read.snapshots;
-    indexes = r.read.indexes;
+    snapshots = r.read.all.snapshots;
+    indexes = r.read.all.indexes;
     packs = packs_whole k es r.read;
+    there = r.read.there;
     texts = r.planned.texts;
     trees = r.planned.trees;
     facts = k.facts;
-    gives = r.read.gives;
+    gives = r.read.all.gives;
   }
 
   -- packs are to be as large as the config that was read wants them
-  sent_aim : n.packer.target.bytes ≡ r.read.target.0.target
-  sent_aim = ap (λ (t : Target). t.bytes) target ∙ r.aim ∙ sym r.read.target.2
+  sent_aim : n.packer.target.bytes ≡ r.read.all.target.0.target
+  sent_aim = ap (λ (t : Target). t.bytes) target ∙ r.aim ∙ sym r.read.all.target.2
 
   -- these are, with the blobs of the packs that were put, the first ones that move
   next_moved : (items : List Item) → map pair_of_item (items_of puts ++ items) ≡ map pair_of_fact (take n.added n.moves.items) → AreNextMoved (IsNeededBy k.rows r.planned.texts) k.facts es items
@@ -207,7 +208,7 @@ module _ (k : Known) (m n : Moving) (puts : List Put) (es : Trace) (r : IsRepack
       let sent = items_of puts in
       let pairs : map pair_of_item (sent ++ n.packer.writer.items) ≡ map pair_of_fact (take n.added n.moves.items) = ap (λ items. map pair_of_item (items ++ n.packer.writer.items)) (sym (append-nil sent)) ∙ a.moving.moved in
       let once = subst (λ fs. AreFactsOnce (facts_in r.kept ++ fs)) (sym same_moves) r.planned.once in
-      let wants = r.read.target in
+      let wants = r.read.all.target in
       let next : IsNextMove (IsNeededBy k.rows r.planned.texts) k.facts es fact = record {
         held = n.packer.writer.items;
         received = held_received n.packer.writer.items pairs got.received;
@@ -286,13 +287,13 @@ module _ (k : Known) (m n : Moving) (puts : List Put) (es : Trace) (r : IsRepack
     -- by the config that was read it wasn't full before its last blob
     sent_prompt : IsPromptPack es s.items
     sent_prompt =
-        let wants = r.read.target in
+        let wants = r.read.all.target in
         (wants.0, wants.1, subst (λ b. WasOpen b s.items) sent_aim s.prompt)
 
     -- and is full, or nothing more waits
     sent_full : IsFullPack es s.items ⊎ AreLastMoved (IsNeededBy k.rows r.planned.texts) k.facts es s.items
     sent_full =
-        let wants = r.read.target in
+        let wants = r.read.all.target in
         elim s.full [ inl full ↦ inl (wants.0, wants.1, subst (λ b. IsDue (record { items = s.items; target = b })) sent_aim full) | inr all ↦ inr (sent_last all) ]
 
   -- a pack may be put

@@ -227,7 +227,7 @@ module _ (k : Known) (r s : Relisting) (es : Trace) (h : MayList k r es) where
         listed = subst (λ ls. AreListed ls p.waiting es) (take_all s.listed s.packs.items whole ∙ p.packs) all;
         stand = puts_listed k r.packs.items r.counts es h.packed;
         rows = k.rows;
-        snapshots = h.packed.read.snapshots;
+        snapshots = h.packed.read.all.snapshots;
         covered = h.packed.covered;
       } in
       let full : IsFullIndex p.text ⊎ AreLastListed es p.waiting = elim p.full [ inl many ↦ inl (p.waiting, p.reads, many) | inr whole ↦ inr (last whole) ] in
@@ -241,13 +241,14 @@ module _ (k : Known) (r s : Relisting) (es : Trace) (h : MayList k r es) where
             known = record {
               none = h.packed.none;
               rows = k.rows;
-              snapshots = h.packed.read.snapshots;
-              indexes = h.packed.read.indexes;
+              snapshots = h.packed.read.all.snapshots;
+              indexes = h.packed.read.all.indexes;
               packs = packs_whole k es h.packed.read;
+              there = h.packed.read.there;
               texts = h.packed.covered.texts;
               trees = h.packed.covered.trees;
               facts = k.facts;
-              gives = h.packed.read.gives;
+              gives = h.packed.read.all.gives;
             };
             walked = h.packed.covered.walked;
             lists = record { packs = p.waiting; reads = p.reads; some = p.some; each = λ listed has. h.packed.each listed (among listed has) };

@@ -55,8 +55,8 @@ use Rattle.repo_reach.specs.Used.{UsedHasPair}
 use Rattle.repo_writing.proofs.PutLemmas.{each_contained}
 use Rattle.repo_prune.specs.inner.Deciding.{IsPlanned}
 use Rattle.repo_prune.specs.Keeping.{Row}
-use Rattle.repo_prune.specs.PruneStates.{Known, HasOnlyListed, HaveRead, IsWalkOver, HasWalked, ArePlanned, KnowsStage}
-use Rattle.repo_prune.specs.Pruning.{AreFewParts, earlier, parts_in, parts_asked, prune_rule, prune_task, IsNeededBy, IsUsedCopyBy, MayStayBy, AreWalked, IsWanted, IsBadTree, IsWalking, PruneConcludes}
+use Rattle.repo_prune.specs.PruneStates.{Known, HaveRead, IsWalkOver, HasWalked, ArePlanned, KnowsStage}
+use Rattle.repo_prune.specs.Pruning.{AreFewParts, HasOnlyListed, earlier, parts_in, parts_asked, prune_rule, prune_task, IsNeededBy, IsUsedCopyBy, MayStayBy, AreWalked, IsWanted, IsBadTree, IsWalking, PruneConcludes}
 use Rattle.repo_prune.specs.Reading.{Walks, WalksOn, Awaits, IsPromised, TakesTree}
 use Rattle.repo_prune.specs.declared.reading.Walked.{Walked}
 use Rattle.repo_prune.proofs.Asides.{IsAside, IsNoChange, fact_same, only_listed, packs_whole, read_same, untouched_same}
@@ -71,7 +71,7 @@ use Rattle.repo_prune.proofs.TreeReading.{path_to, walk_reads}
 pub awaited_read : (k : Known) (es : Trace) (texts : List (List ℕ)) (trees : Trees) (fact : Fact) → HaveRead k es → Awaits k.facts texts trees fact → ReadFact es fact
 awaited_read k es texts trees fact read a =
     let is : fact_of Tree fact.name fact.place ≡ fact = λ i. record { kind = sym a.next.0 i; name = fact.name; place = fact.place } in
-    (read.gives fact).0 (subst (Contains k.facts) is a.next.1.among)
+    (read.all.gives fact).0 (subst (Contains k.facts) is a.next.1.among)
 
 -- ---- rows and roots
 
@@ -104,7 +104,7 @@ tree_needed k es texts trees n over (follows, depth, within, leads) =
     let root : Root = record { tree = p.top; follows = follows } in
     let found = map_contains row_root k.rows root (subst (λ rs. Contains rs root) over.roots p.among) in
     let reach : Reach (version_by follows) (tree_blobs texts) p.top Tree n = under_reached (version_by follows) (tree_blobs texts) p.top p.path n (subst (λ d. d ≤ greatest_depth) (sym p.long) within) p.under in
-    record { row = found.0; among = found.1; reaches = by_version es k.rows over.read.snapshots found.0 found.1 (λ v t. Reach v (tree_blobs texts) t Tree n) root found.2 reach }
+    record { row = found.0; among = found.1; reaches = by_version es k.rows over.read.all.snapshots found.0 found.1 (λ v t. Reach v (tree_blobs texts) t Tree n) root found.2 reach }
 
 -- each part of a pack that was asked for brought a tree that reads
 over_parts : (k : Known) (texts : List (List ℕ)) (trees : Trees) (es : Trace) → IsWalkOver k texts trees es → Walks k.facts texts trees → AreFewParts es 0
@@ -114,6 +114,7 @@ pub over_walking : (k : Known) (texts : List (List ℕ)) (trees : Trees) (es : T
 over_walking k texts trees es over come = record {
   untouched = over.untouched;
   packs = packs_whole k es over.read;
+  there = over.read.there;
   parts = record { trees = texts; received = over.received; apart = over.apart; few = over.parts };
   come = come;
 }
@@ -126,13 +127,14 @@ tree_wanted k es texts trees fact over a =
       known = record {
         none = over.untouched.none_deleted;
         rows = k.rows;
-        snapshots = over.read.snapshots;
-        indexes = over.read.indexes;
+        snapshots = over.read.all.snapshots;
+        indexes = over.read.all.indexes;
         packs = packs_whole k es over.read;
+        there = over.read.there;
         texts = texts;
         trees = record { received = over.received; one = a.walks.walk.seen.one };
         facts = k.facts;
-        gives = over.read.gives;
+        gives = over.read.all.gives;
       };
       copy = record {
         is_used = subst (λ kind. IsNeededBy k.rows texts kind fact.name) of_tree (tree_needed k es texts trees fact.name over a.next.3);
@@ -168,21 +170,21 @@ module _ (k : Known) (es : Trace) (texts : List (List ℕ)) (trees : Trees) (ove
       let row = row_of root among in
       let version = row.0.1.version in
       let tree = row.0.1.tree in
-      let by : Reach version (tree_blobs texts) tree kind n = by_version es k.rows over.read.snapshots row.0 row.1 (λ v t. Reach v (tree_blobs texts) t kind n) root row.2 reached in (
+      let by : Reach version (tree_blobs texts) tree kind n = by_version es k.rows over.read.all.snapshots row.0 row.1 (λ v t. Reach v (tree_blobs texts) t kind n) root row.2 reached in (
         row.0.0,
-        row_listed es k.rows over.read.snapshots row.0 row.1,
+        row_listed es k.rows over.read.all.snapshots row.0 row.1,
         record {
           kind = kind;
           called = refl;
           version = version;
           root = tree;
-          found = row_found es k.rows over.read.snapshots row.0 row.1;
+          found = row_found es k.rows over.read.all.snapshots row.0 row.1;
           reached = reach_grows version (tree_blobs texts) (Received es) (texts_received es texts over.received) tree kind n by;
-          indexes = over.read.indexes;
+          indexes = over.read.all.indexes;
           ungiven = λ given.
               let fact : Fact = given.0 in
               let is : fact ≡ fact_of kind n fact.place = λ i. record { kind = given.2 i; name = given.3 i; place = fact.place } in
-              nowhere fact.place (subst (Contains k.facts) is ((over.read.gives fact).1 given.1));
+              nowhere fact.place (subst (Contains k.facts) is ((over.read.all.gives fact).1 given.1));
         },
       )
 
@@ -191,24 +193,29 @@ module _ (k : Known) (es : Trace) (texts : List (List ℕ)) (trees : Trees) (ove
       let row = row_of root among in
       let version = row.0.1.version in
       let top = row.0.1.tree in
-      let at : Under version (tree_blobs texts) top path tree = by_version es k.rows over.read.snapshots row.0 row.1 (λ v t. Under v (tree_blobs texts) t path tree) root row.2 under in
-      let bad : IsBroken version (tree_blobs texts) top path tree = by_version es k.rows over.read.snapshots row.0 row.1 (λ v t. IsBroken v (tree_blobs texts) t path tree) root row.2 broken in
+      let at : Under version (tree_blobs texts) top path tree = by_version es k.rows over.read.all.snapshots row.0 row.1 (λ v t. Under v (tree_blobs texts) t path tree) root row.2 under in
+      let bad : IsBroken version (tree_blobs texts) top path tree = by_version es k.rows over.read.all.snapshots row.0 row.1 (λ v t. IsBroken v (tree_blobs texts) t path tree) root row.2 broken in
       record {
         snapshot = row.0.0;
-        among = row_listed es k.rows over.read.snapshots row.0 row.1;
+        among = row_listed es k.rows over.read.all.snapshots row.0 row.1;
         version = version;
         root = top;
-        found = row_found es k.rows over.read.snapshots row.0 row.1;
+        found = row_found es k.rows over.read.all.snapshots row.0 row.1;
         path = path;
         shallow = shallow;
         leads = under_grows version (tree_blobs texts) (Received es) (texts_received es texts over.received) top path tree at;
         broken = broken_grows version (tree_blobs texts) (Received es) (texts_received es texts over.received) top path tree bad;
       }
 
+  -- a tree, or some content, that no index gives
+  unindexed_ends : IsWalking es → AreFewParts es 0 → (kind : BlobKind) (n : Name) → ((snapshot : Name) × Lists es Kind.Snapshot snapshot × IsUnindexed es snapshot (blob_thing kind) n) → PruneConcludes es (Outcome.Ended (End.Missing (blob_thing kind) n))
+  unindexed_ends walking parts Tree n u = (walking, parts, u)
+  unindexed_ends walking parts Content n u = (walking, parts, u)
+
   pub cannot_go_on : HasCome IsWanted es → AreFewParts (earlier es) 0 → (end : End) → WalksOn k.facts texts trees (Walked.Ended end) → PruneConcludes es (Outcome.Ended end)
   cannot_go_on come before (End.Missing thing n) (h, walks) =
       let u = unindexed h.0 n h.2 h.3.0 h.3.1 h.3.2 in
-      (over_walking k texts trees es over come, over_parts k texts trees es over walks, subst (λ t. (snapshot : Name) × Lists es Kind.Snapshot snapshot × IsUnindexed es snapshot t n) (sym h.1) u)
+      subst (λ t. PruneConcludes es (Outcome.Ended (End.Missing t n))) (sym h.1) (unindexed_ends (over_walking k texts trees es over come) (over_parts k texts trees es over walks) h.0 n u)
   cannot_go_on come before (End.BadObject thing tree) (h, walks) =
       let bad = bad_tree_there tree h.1.0 h.1.1 h.1.2.0 h.1.2.1 h.1.2.2 h.1.2.3 in
       subst (λ t. PruneConcludes es (Outcome.Ended (End.BadObject t tree))) (sym h.0) (inl (over_walking k texts trees es over come, before, bad))
@@ -234,7 +241,7 @@ read_within es fact read =
 
 module _ (k : Known) (trees : Trees) (es : Trace) (h : HasWalked k trees es) where
   listing : IsSnapshotListing es k.rows
-  listing = h.over.read.snapshots
+  listing = h.over.read.all.snapshots
 
   -- what a row's snapshot reaches, its root does
   reach_one : (row : Row) (kind : BlobKind) (n : Name) → Contains k.rows row → Reach row.1.version (tree_blobs h.texts) row.1.tree kind n → IsReachedBy h.texts trees.roots.items (row_root row).follows kind n
@@ -305,9 +312,9 @@ module _ (k : Known) (trees : Trees) (es : Trace) (h : HasWalked k trees es) whe
         record {
           some = stays.some;
           few = stays.few;
-          within = λ fact has. let b = (stays.all.each fact).0 has in (b.1, read_within es fact ((h.over.read.gives fact).0 b.0));
+          within = λ fact has. let b = (stays.all.each fact).0 has in (b.1, read_within es fact ((h.over.read.all.gives fact).0 b.0));
         };
-    moves_are = λ fact among. (h.over.read.gives fact).0 ((p.plan_of.moves fact).0 among).copy.least.among;
+    moves_are = λ fact among. (h.over.read.all.gives fact).0 ((p.plan_of.moves fact).0 among).copy.least.among;
     must = λ fact. (
       λ among.
           let moves = (p.plan_of.moves fact).0 among in

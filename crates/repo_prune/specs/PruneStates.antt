@@ -35,7 +35,7 @@ use Rattle.repo_session.specs.Rolls.{IsPaged, Rolls}
 use Rattle.repo_session.specs.Sessions.{FitsSession}
 use Rattle.repo_session.specs.declared.sessions.Session.{Session}
 use Rattle.repo_session.specs.Told.{AskedToPut}
-use Rattle.repo_session.specs.Traces.{Each, Object, Trace, WasAsked, silent, names_in, objects_put, IsListed, Lists, ReadFact}
+use Rattle.repo_session.specs.Traces.{Each, Object, Trace, silent, names_in, objects_put, IsListed, Lists, ReadFact}
 use Rattle.repo_reach.specs.Collected.{root_of}
 use Rattle.repo_reach.specs.Laws.{IsWholeWalk}
 use Rattle.repo_reach.specs.declared.trees.Trees.{Trees}
@@ -47,7 +47,7 @@ use Rattle.repo_writing.specs.Writing.{Put, items_of, ArePut, AreListed, ListsPa
 use Rattle.repo_writing.specs.declared.counts.Counts.{Counts}
 use Rattle.repo_prune.specs.Keeping.{Row}
 use Rattle.repo_prune.specs.Moving.{IsMoving, AwaitsBlob}
-use Rattle.repo_prune.specs.Pruning.{prune_rule, prune_task, IsUntouched, AreTrees, IsNeededBy, AreWalked, MayStayBy, MustMoveBy, IsWanted, AreLastMoved, IsPutOrStays, WasReceived, AreFewParts, parts_asked, AscendByName, AreCovered, IsSettled, PruneConcludes}
+use Rattle.repo_prune.specs.Pruning.{prune_rule, prune_task, ArePacksListed, HasOnlyListed, IsUntouched, AreTrees, IsNeededBy, AreWalked, MayStayBy, MustMoveBy, IsWanted, AreLastMoved, IsPutOrStays, WasReceived, AreFewParts, parts_asked, AscendByName, AreCovered, IsSettled, PruneConcludes}
 use Rattle.repo_prune.specs.Reading.{Walks, Awaits, HasTaken}
 use Rattle.repo_prune.specs.Relisting.{AreListable}
 use Rattle.repo_prune.specs.declared.deleting.Deleting.{Deleting}
@@ -59,12 +59,6 @@ use Rattle.repo_prune.specs.declared.prunes.Stage.{Stage}
 use Rattle.repo_prune.specs.declared.relisting.Relisting.{Relisting}
 
 -- ---- what was listed and read
-
--- nothing was put, nothing deleted, and no part of a pack asked for
-pub record HasOnlyListed (es : Trace) : Type 0 where
-  pub none_put : (k : Kind) → objects_put k es ≡ []
-  pub none_deleted : NoneDeleted es
-  pub none_ranged : (pack : Name) (offset len : ℕ) → ¬ WasAsked es (Ask.Range pack offset len)
 
 -- the config was read, and wants packs of so many bytes
 abbrev pub HasTarget : Trace → ℕ → Type 0
@@ -79,13 +73,18 @@ pub record Known : Type 0 where
   pub target : ℕ
 
 -- all three are listed to their end; each snapshot and each index was read, and reads; just these facts the indexes give; and so many bytes the config wants
-pub record HaveRead (k : Known) (es : Trace) : Type 0 where
+pub record AreAllListed (k : Known) (es : Trace) : Type 0 where
   pub snapshots : IsSnapshotListing es k.rows
   pub indexes : AreIndexed es
   pub listed : names_in Kind.Index es ≡ k.indexes
   pub gives : (fact : Fact) → Contains k.facts fact ↔ ReadFact es fact
   pub packs : IsPaged Kind.Pack k.packs true es
   pub target : HasTarget es k.target
+
+-- and each pack of which an index gives a fact is listed
+pub record HaveRead (k : Known) (es : Trace) : Type 0 where
+  pub all : AreAllListed k es
+  pub there : ArePacksListed es
 
 -- ---- trees
 

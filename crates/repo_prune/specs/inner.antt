@@ -2,6 +2,7 @@
 pub mod Walks
 pub mod Picking
 pub mod Unfound
+pub mod Unlisted
 pub mod Indexing
 pub mod Deciding
 pub mod Deleting

@@ -5,7 +5,8 @@ ghost use Rattle.repo_reach.specs.Collected.{root_of};
 ghost use Rattle.repo_session.specs.Jobs.{IsShortStep};
 ghost use Rattle.repo_session.specs.declared.jobs.Step.{Step};
 ghost use Rattle.repo_session.specs.declared.outcomes.Outcome.{Outcome};
-ghost use Rattle.repo_prune.specs.PruneStates.{HasOnlyListed, HaveRead, HasWalked, HasPlanned, HasMoved, HasListed, known_in, ComesAfter, MovesTo};
+ghost use Rattle.repo_prune.specs.Pruning.{HasOnlyListed};
+ghost use Rattle.repo_prune.specs.PruneStates.{AreAllListed, HaveRead, HasWalked, HasPlanned, HasMoved, HasListed, known_in, ComesAfter, MovesTo};
 
 use crate::deciding::{Decided, decide};
 use crate::deleting::Deleting;
@@ -14,6 +15,7 @@ use crate::plans::Plan;
 use crate::prunes::{Onward, Prune, Stage};
 use crate::reading::{Walked, read_on};
 use crate::relisting::Relisting;
+use crate::unlisted::unlisted_pack;
 use repo_name::{Name, Thing, Token};
 use repo_reach::{Root, Trees};
 use repo_session::{End, Outcome, Step, range_ask};
@@ -117,8 +119,8 @@ impl Prune {
         }
     }
 
-    /// What comes once all is listed: trees are read. It fails for memory alone.
-    pub fn after_lists(&self, token: Token) -> Result<Onward, AllocError>
+    /// What comes once each pack that an index names was found listed: trees are read. It fails for memory alone.
+    fn after_packs(&self, token: Token) -> Result<Onward, AllocError>
         ensures on { IfOk result (ComesAfter (known_in self.now) token (λ es. HaveRead (known_in self.now) es × HasOnlyListed es)) }
         ensures short { IfOk result (λ onward. IsShortStep onward.step) }
     {
@@ -137,6 +139,22 @@ impl Prune {
             Walked::Away => Ok(Onward {
                 stage: Stage::Listing,
                 step: Step::Away,
+            }),
+        }
+    }
+
+    /// What comes once all is listed: it ends if an index names a pack that isn't listed, and else trees are read. It fails
+    /// for memory alone.
+    pub fn after_lists(&self, token: Token) -> Result<Onward, AllocError>
+        ensures on { IfOk result (ComesAfter (known_in self.now) token (λ es. AreAllListed (known_in self.now) es × HasOnlyListed es)) }
+        ensures short { IfOk result (λ onward. IsShortStep onward.step) }
+    {
+        let packs = self.packs.names.as_slice();
+        match unlisted_pack(self.alloc, &self.catalog.lookup, packs)? {
+            None => self.after_packs(token),
+            Some(pack) => Ok(Onward {
+                stage: Stage::Listing,
+                step: end(End::Missing(Thing::Pack, pack)),
             }),
         }
     }

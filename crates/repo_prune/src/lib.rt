@@ -20,7 +20,8 @@
 //! blobs move in the order of their places; no pack that it puts was full before its last blob, by the config, and each
 //! is with it, or nothing more waits to be moved; then each index lists only packs that were put or stay, of blobs that
 //! are needed and that none before it lists, packs in the order of their names, 20,000 blobs or more and without its
-//! last pack fewer, or nothing more waits to be listed; it reads each snapshot and each index once, no pack as a whole,
+//! last pack fewer, or nothing more waits to be listed; if an index names a pack that isn't listed, it ends `Missing` of
+//! the least such pack, before it puts or deletes anything; it reads each snapshot and each index once, no pack as a whole,
 //! and of a blob only the place of its used copy, if it is a tree that a listed snapshot needs and that wasn't
 //! received, or is the next that moves, where those that wait for its pack leave room in it; it reads nothing after its
 //! first delete, and ends `Pruned` once each old index and each pack that no new index lists is deleted; alone with a
@@ -31,7 +32,7 @@
 //! delete, and how it may end), `Ascending` (in which order forgets and prunes delete); and what is known on the way:
 //! `Walks` (how the rows of a host are gone down), `Picking`, `ForgetStates`; `Laws` (a forget alone with its store);
 //! `Plans` (what a prune keeps and moves); `Reading`, `Unfound` and `Deciding` (its reading of trees, and what it decides
-//! by them); `Moving` (its new packs); `Indexing` and `Relisting` (its new indexes); `Deleting` (its deletes); `PruneStates`
+//! by them); `Unlisted` (a pack that an index names and that isn't listed); `Moving` (its new packs); `Indexing` and `Relisting` (its new indexes); `Deleting` (its deletes); `PruneStates`
 //! (what is known in each of its stages); `Pruning` (what a prune may read, put and delete, and how it may end);
 //! `Upgrading` and `UpgradeStates` (the same of an upgrade).
 #![tactic(auto)]
@@ -54,6 +55,7 @@ mod relisting;
 mod replies;
 mod standings;
 mod unfound;
+mod unlisted;
 mod upgrades;
 
 pub use choices::{Choice, ForgetError};

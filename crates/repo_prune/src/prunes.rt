@@ -46,8 +46,9 @@ pub struct Onward {
 /// packs that stay in new indexes, and then deletes the other indexes and after them the other packs. Its outcome is
 /// `Pruned`, with the number of packs deleted and of the bytes of the blobs moved, where nothing went wrong.
 ///
-/// `Missing` tells of a blob that a snapshot needs and no index gives, and `BadObject` or `Version` of what doesn't read:
-/// nothing was deleted then.
+/// `Missing` of a pack is the least one that an index names and that isn't listed: nothing was put or deleted then. `Missing`
+/// of a blob is one that a snapshot needs and no index gives, and `BadObject` or `Version` is of what doesn't read: nothing
+/// was deleted then.
 ///
 /// It has what it listed and read of the store, how far it is, and how large new packs are to be.
 #[derive(Drop)]

@@ -44,7 +44,11 @@ restore_ends snapshot End.FileTooLarge h = h
 restore_ends snapshot End.Abandoned h = h
 
 prune_ends : (end : End) → (rule_of Job.Prune).concludes [] (Outcome.Ended end) → ⊥
-prune_ends (End.Missing thing name) h = h.2.1
+prune_ends (End.Missing Thing.Pack pack) h = unlisted h.1.packs.complete
+prune_ends (End.Missing Thing.Tree name) h = h.2.1
+prune_ends (End.Missing Thing.Content name) h = h.2.1
+prune_ends (End.Missing Thing.Index name) h = h.2.1
+prune_ends (End.Missing Thing.Snapshot name) h = h.2.1
 prune_ends (End.BadObject Thing.Tree tree) h = ⊎_elim (λ bad. bad.2.among) (λ part. part) h
 prune_ends (End.BadObject Thing.Pack tree) h = h
 prune_ends (End.BadObject Thing.Index tree) h = h

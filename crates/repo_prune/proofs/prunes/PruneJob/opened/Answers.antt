@@ -10,8 +10,8 @@ use Rattle.repo_session.proofs.KindReads.{due_snapshot}
 use Rattle.repo_session.proofs.Listing.{opened_snapshots}
 use Rattle.repo_session.proofs.Rolling.{opened_rolled}
 use Rattle.repo_writing.proofs.Filling.{most_known}
-use Rattle.repo_prune.specs.Pruning.{prune_rule}
-use Rattle.repo_prune.specs.PruneStates.{HasOnlyListed, IsListingOf}
+use Rattle.repo_prune.specs.Pruning.{prune_rule, HasOnlyListed}
+use Rattle.repo_prune.specs.PruneStates.{IsListingOf}
 use Rattle.repo_prune.specs.declared.prunes.Prune.{Prune}
 use Rattle.repo_prune.proofs.PruneListing.{snapshots_back, roll_listing, snapshots_allowed, opened_unranged}
 use Rattle.repo_prune.proofs.prunes.PruneJob.opened.Goals as goal
