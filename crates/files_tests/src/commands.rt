@@ -10,6 +10,8 @@ use repo_prog::{
 use std::alloc::{AllocError, Global};
 use std::io;
 use std::net::{OpenListener, SocketAddr, TcpStream};
+use std::rt::Clock;
+use std::time::Duration;
 
 const CALLER: Caller = Caller {
     instance: Instance([1; 16]),
@@ -164,8 +166,22 @@ impl OpenListener for Deaf {
     }
 }
 
+/// A clock that stands still, and on which no sleep takes time.
+#[derive(Drop)]
+struct Still;
+
+impl Clock for Still {
+    fn monotonic(&self) -> io::Result<Duration> {
+        Ok(Duration::ZERO)
+    }
+
+    fn since_1970(&self) -> io::Result<Duration> {
+        Ok(Duration::ZERO)
+    }
+}
+
 #[test]
 fn a_connection_that_cannot_be_taken_is_none(rt: HostRuntime) {
-    let mut arrivals = Arrivals::at(&Deaf, None);
+    let mut arrivals = Arrivals::at(&Still, &Deaf, None);
     assert!(rt; arrivals.accept().is_none());
 }

@@ -5,6 +5,7 @@ use repo_files::HoldFile;
 use std::alloc::{Allocator, Global};
 use std::fs::{File, Files, Metadata, OpenFile, OpenOptions};
 use std::io::{ErrorKind, Read, Seek, SeekFrom, Write};
+use std::path::PathBuf;
 use std::{fs, io};
 
 /// A file system that passes calls on until its fuse has burnt down.
@@ -158,5 +159,15 @@ impl<'a> Files for Cut<'a> {
 
     fn remove_dir_all<B: Allocator>(&self, _: B, _: &str) -> io::Result<()> {
         Err(io::Error::from(ErrorKind::Unsupported))
+    }
+
+    fn canonicalize<B: Allocator>(&self, alloc: B, path: &str) -> io::Result<PathBuf<B>> {
+        self.fuse.burn(What::Look, path)?;
+        self.inner.canonicalize(alloc, path)
+    }
+
+    fn read_link<B: Allocator>(&self, alloc: B, path: &str) -> io::Result<PathBuf<B>> {
+        self.fuse.burn(What::Look, path)?;
+        self.inner.read_link(alloc, path)
     }
 }

@@ -22,6 +22,10 @@ const PHOTO: &str = "above/store/tmp/photo.jpg";
 /// the first pack, the second, the index and the config are there; a 2 is for other bytes.
 const STATES: [u64; 7] = [1_0000, 1_1000, 1_1010, 2_1010, 2_1011, 2_1111, 2_0111];
 
+/// A config. A folder whose config reads as none isn't opened.
+const CONFIG: &[u8] =
+    b"{\"chunk_bits\":6,\"chunk_max\":128,\"chunk_min\":64,\"id\":\"00000000000000000000000000000000\",\"pack_target\":1024,\"version\":1}";
+
 /// How many changes there are.
 const CHANGES: usize = 6;
 
@@ -41,7 +45,7 @@ fn change<S: Shelf>(shelf: &mut S, alloc: Global, which: usize) -> Result<(), Sh
             let _ = ledger.ticket();
             shelf.save_ledger(&ledger)
         }
-        3 => shelf.save_config(b"{}"),
+        3 => shelf.save_config(CONFIG),
         4 => shelf.put(Kind::Pack, &name_of(b"a second one"), b"a second one"),
         _ => shelf.remove(Kind::Pack, &name_of(b"abc")),
     }
@@ -76,7 +80,7 @@ fn seen<S: Shelf>(shelf: &mut S) -> Result<u64, ShelfError> {
     let second = shelf.get(Kind::Pack, &name_of(b"a second one"))?;
     let second = weight(second, b"a second one", 100);
     let index = weight(shelf.get(Kind::Index, &name_of(b"abc"))?, b"abc", 10);
-    let config = weight(shelf.config()?, b"{}", 1);
+    let config = weight(shelf.config()?, CONFIG, 1);
     let packs = first.saturating_add(second);
     let objects = packs.saturating_add(index.saturating_add(config));
     match shelf.ledger()?.ticket() {

@@ -56,16 +56,17 @@ impl Yard {
     }
 }
 
-// A whole walk lists two folders, looks at two entries, and opens the file, looks at it and reads it twice.
+// A whole walk looks at two folders, lists each twice and looks at it again; and it looks at the file, opens it, looks at it again and
+// reads it once.
 #[test]
 fn a_walk_is_whole_or_names_a_path(rt: HostRuntime) {
     let mut yard = Yard::new(rt, "unread").expect(&rt, "no folder");
     yard.makes("d/e");
     yard.writes("d/e/f", "abc");
-    for calls in 0..8u64 {
+    for calls in 0..12u64 {
         yard.walks(calls, Trick::None, "");
     }
-    yard.walks(8, Trick::None, "whole");
+    yard.walks(12, Trick::None, "whole");
     yard.end(&rt);
 }
 

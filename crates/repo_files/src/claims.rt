@@ -1,12 +1,21 @@
 //! What a folder has at the names that are a store's own, before anything is made or removed there.
 
+ghost use Rattle.std.specs.Prelude.{IfOk, IsFalse};
+ghost use Rattle.repo_tree.specs.ConfigText.{IsConfigText};
+ghost use Rattle.repo_tree.specs.declared.configs.Config.{Config};
+
 use crate::folders::Folder;
 use crate::holding::HoldFile;
+use crate::listings::entries_at_rest;
 use crate::own_names::{FOLDERS, LOCK, TEMPORARY};
+use crate::system::PRIVATE_FILE;
 use repo_folder::{CONFIG, LEDGER, is_draft};
-use std::alloc::{AllocError, AllocGlobal};
+use repo_name::TEXT_LIMIT;
+use repo_tree::{Config, TextError};
+use std::alloc::{AllocError, AllocGlobal, Global};
 use std::fs::{Files, OpenOptions};
 use std::io::ErrorKind;
+use std::os::unix::fs::OpenOptionsExt;
 use std::{fs, io};
 
 /// What has a name. A link is neither a file nor a folder.
@@ -18,10 +27,34 @@ enum Sort {
     Other,
 }
 
+/// Whether these bytes are those of a config, of this version of the program or of a newer one.
+fn is_config(alloc: Global, bytes: &[u8]) -> Result<bool, AllocError>
+    ensures { IfOk result (λ is. IsFalse is → (config : Config) → ¬ IsConfigText bytes.now config) }
+{
+    match Config::read(alloc, bytes) {
+        Ok(_) | Err(TextError::Version) => Ok(true),
+        Err(TextError::Memory) => Err(AllocError),
+        Err(_) => Ok(false),
+    }
+}
+
 impl<R: Files + AllocGlobal + Clone + Drop> Folder<R> {
-    /// Whether it is a store: it has a config or a ledger, as a file.
+    /// Whether it is a store: it has a file `config` that reads as a config, or no such file and a ledger.
     pub fn is_store(&self) -> io::Result<bool> {
-        Ok(self.has_file(CONFIG)? || self.has_file(LEDGER)?)
+        if self.has_file(CONFIG)? {
+            return self.has_config_text();
+        }
+        self.has_file(LEDGER)
+    }
+
+    /// Whether the file `config` reads as a config. No more of it is read than the longest config has.
+    fn has_config_text(&self) -> io::Result<bool> {
+        let path = self.path("", CONFIG)?;
+        if fs::metadata(&self.rt, path.as_str())?.len() > TEXT_LIMIT as u64 {
+            return Ok(false);
+        }
+        let text = fs::read(&self.rt, path.as_str())?;
+        Ok(is_config(self.rt.alloc(), text.as_slice())?)
     }
 
     /// Whether anything has the name of the config.
@@ -48,7 +81,8 @@ impl<R: Files + AllocGlobal + Clone + Drop> Folder<R> {
         Ok(true)
     }
 
-    /// Holds the folder by its file `lock`, which is made where it isn't there, and never replaced.
+    /// Holds the folder by its file `lock`, which is made where it isn't there, and never replaced. Its owner alone may open
+    /// a lock that is made here, so that no other user can hold it.
     pub fn hold(&self) -> io::Result<R::File>
     where
         R::File: HoldFile,
@@ -58,6 +92,7 @@ impl<R: Files + AllocGlobal + Clone + Drop> Folder<R> {
             .read(true)
             .write(true)
             .create(true)
+            .mode(PRIVATE_FILE)
             .open(&self.rt, path.as_str())?;
         file.try_hold()?;
         Ok(file)
@@ -112,17 +147,16 @@ impl<R: Files + AllocGlobal + Clone + Drop> Folder<R> {
     /// Adds the folders in a folder; whether nothing else is in it but what was being written.
     fn add_folders(&self, below: &str, folders: &mut Vec<String>) -> io::Result<bool> {
         let path = self.path(below, "")?;
-        for entry in fs::read_dir(&self.rt, path.as_str())? {
-            let entry = entry?;
-            let name = entry.file_name();
-            let found = entry.file_type()?;
-            if found.is_dir() {
-                folders.push(self.child(below, name)?)?;
-            } else if !found.is_file() || below != TEMPORARY || !is_draft(name) {
-                return Ok(false);
+        let found = entries_at_rest(&self.rt, path.as_str())?;
+        for name in &found.names {
+            let child = self.child(below, name.as_str())?;
+            match self.sort_of(child.as_str())? {
+                Sort::Folder => folders.push(child)?,
+                Sort::File if below == TEMPORARY && is_draft(name.as_str()) => {}
+                _ => return Ok(false),
             }
         }
-        Ok(true)
+        Ok(found.unnamed == 0)
     }
 
     /// The path of an entry of a folder, below this one.

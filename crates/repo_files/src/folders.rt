@@ -2,14 +2,17 @@
 
 use std::alloc::{AllocError, AllocGlobal};
 use std::fs::{DirBuilder, File, Files, OpenFile};
+use std::io::ErrorKind;
 use std::os::unix::fs::DirBuilderExt;
 use std::{fs, io};
 
-/// Who may look into a folder that is made: its owner alone, or whom the process's mask lets.
+/// Whether it is an error that a folder can't be synced because of its file system or its mode.
 #[derive(Clone, Copy, Debug, PartialEq, Eq)]
-pub enum Access {
-    Owner,
-    Masked,
+pub enum FolderSync {
+    /// It is.
+    Required,
+    /// It isn't: the file system can't sync folders, or the folder may not be opened.
+    IfPossible,
 }
 
 /// A folder, by its path.
@@ -38,25 +41,28 @@ impl<R: Files + AllocGlobal + Clone + Drop> Folder<R> {
         Ok(path)
     }
 
-    /// Makes it with this access, and each folder above as the process's mask says, where they aren't there, so that they
-    /// last. The access of one that is there stays. A path may end with slashes, and with dots by themselves.
-    pub fn make_whole(&self, access: Access) -> io::Result<()> {
+    /// Makes it, so that its owner alone may look into it, and each folder above, so that its owner alone may write there. What is
+    /// there stays as it is. Each folder that is made is synced into the one above it. A path may end with slashes, and with dots
+    /// by themselves.
+    pub fn make_whole(&self, sync: FolderSync) -> io::Result<()> {
         let root = self.root.as_str();
         for end in 1..root.len() {
             if let Some((above, rest)) = root.split_at_checked(end)
                 && rest.starts_with('/')
             {
-                let access = if names_nothing(rest) {
-                    access
-                } else {
-                    Access::Masked
-                };
-                make_named(&self.rt, above, access)?;
+                let mode = if names_nothing(rest) { PRIVATE } else { SHARED };
+                make_named(&self.rt, above, mode, sync)?;
             }
         }
-        make_named(&self.rt, root, access)
+        make_named(&self.rt, root, PRIVATE, sync)
     }
 }
+
+/// The mode of a folder into which its owner alone may look, and of one in which its owner alone may write. The process's mask can
+/// only take rights away from these.
+const PRIVATE: u32 = 0o700;
+
+const SHARED: u32 = 0o755;
 
 /// Whether the end of a path names nothing more: it is of slashes, and of dots by themselves.
 fn names_nothing(rest: &str) -> bool {
@@ -81,19 +87,42 @@ pub fn sync_at<R: Files>(rt: &R, path: &str) -> io::Result<()> {
     File::open(rt, path)?.sync_all()
 }
 
-/// Makes a folder.
-fn make<R: Files>(rt: &R, path: &str, access: Access) -> io::Result<()> {
-    match access {
-        Access::Owner => DirBuilder::new().mode(0o700).create(rt, path),
-        Access::Masked => fs::create_dir(rt, path),
+/// Syncs a folder, so that the names in it last, as far as that is asked for.
+pub fn sync_folder<R: Files>(rt: &R, path: &str, sync: FolderSync) -> io::Result<()> {
+    match sync {
+        FolderSync::Required => sync_at(rt, path),
+        FolderSync::IfPossible => sync_if_possible(rt, path),
     }
 }
 
-/// Makes a folder, where it isn't there, and syncs the one that it stands in, so that its name lasts. Where it
+/// Syncs a folder. That it may not be opened, or that its file system can't sync folders, is no error.
+fn sync_if_possible<R: Files>(rt: &R, path: &str) -> io::Result<()> {
+    let folder = match File::open(rt, path) {
+        Ok(folder) => folder,
+        Err(error) if error.kind() == ErrorKind::PermissionDenied => return Ok(()),
+        Err(error) => return Err(error),
+    };
+    match folder.sync_all() {
+        Err(error) if says_no_sync(error.kind()) => Ok(()),
+        synced => synced,
+    }
+}
+
+/// Whether a sync that ends so says that the file system has no sync of folders.
+fn says_no_sync(kind: ErrorKind) -> bool {
+    kind == ErrorKind::InvalidInput || kind == ErrorKind::Unsupported
+}
+
+/// Makes a folder into which its owner alone may look.
+pub fn make_private<R: Files>(rt: &R, path: &str) -> io::Result<()> {
+    DirBuilder::new().mode(PRIVATE).create(rt, path)
+}
+
+/// Makes a folder with this mode, where it isn't there, and syncs the one that it stands in, so that its name lasts. Where it
 /// was there already, and the one that it stands in can't be synced, that is let be.
-fn make_named<R: Files>(rt: &R, path: &str, access: Access) -> io::Result<()> {
-    match make(rt, path, access) {
-        Ok(()) => sync_at(rt, parent_of(path)),
+fn make_named<R: Files>(rt: &R, path: &str, mode: u32, sync: FolderSync) -> io::Result<()> {
+    match DirBuilder::new().mode(mode).create(rt, path) {
+        Ok(()) => sync_folder(rt, parent_of(path), sync),
         Err(error) if !is_folder(rt, path) => Err(error),
         Err(_) => {
             let _ = sync_at(rt, parent_of(path));

@@ -4,35 +4,55 @@ ghost use Rattle.std.specs.Prelude.{◌≡◌, IfOk, OnOk, string_bytes};
 ghost use Rattle.repo_files.specs.inner.Places.{place_of};
 ghost use Rattle.repo_tree.specs.Paths.{IsPath};
 
-use crate::drafts::Draft;
-use crate::folders::{Access, Folder, sync_at};
-use crate::places::{place_below, without_slash};
-use crate::system::if_there;
+use crate::drafts::{Draft, Written};
+use crate::folders::{Folder, FolderSync, make_private, sync_folder};
+use crate::listings::entries_at_rest;
+use crate::places::{place_below, place_in, without_slash};
+use crate::safe_targets::is_safe_target;
+use crate::system::{PRIVATE_FILE, if_there};
 use repo_tree::{Path, is_path};
 use std::alloc::{AllocError, AllocGlobal};
-use std::fs::{File, Files, OpenFile};
+use std::fs::{Files, OpenFile, OpenOptions};
 use std::io::ErrorKind;
-use std::{fs, io};
+use std::os::unix::fs::OpenOptionsExt;
+use std::{fs, io, mem};
 
 /// What a temporary name begins with; a number follows.
 const TEMPORARY: &str = "!restoring-";
 
-/// Whether nothing is in the folder of this path, which need not be there.
-fn is_empty<R: Files + AllocGlobal + Clone>(rt: &R, path: &str) -> io::Result<bool> {
-    let Some(mut entries) = if_there(fs::read_dir(rt, path))? else {
+/// The directory that a new ext4 file system has.
+const LOST_AND_FOUND: &str = "lost+found";
+
+/// So many files are held open at most until they are synced, and so many bytes are written to these.
+const MOST_FILES: usize = 100;
+
+const MOST_BYTES: u64 = 64 << 20;
+
+/// Whether the folder of this path is empty, has a directory `lost+found` alone, or isn't there.
+fn is_empty<R: Files + AllocGlobal + Clone + Drop>(rt: &R, path: &str) -> io::Result<bool> {
+    if if_there(fs::metadata(rt, path))?.is_none() {
         return Ok(true);
-    };
-    match entries.next() {
-        None => Ok(true),
-        Some(Ok(_)) => Ok(false),
-        Some(Err(error)) if error.kind() == ErrorKind::InvalidFilename => Ok(false),
-        Some(Err(error)) => Err(error),
     }
+    let found = entries_at_rest(rt, path)?;
+    match found.names.as_slice() {
+        _ if found.unnamed > 0 => Ok(false),
+        [] => Ok(true),
+        [name] if name.as_str() == LOST_AND_FOUND => {
+            let place = place_in(rt.alloc(), without_slash(path), name.as_str())?;
+            is_directory(rt, place.as_str())
+        }
+        _ => Ok(false),
+    }
+}
+
+/// Whether a path leads to a directory, and to no link.
+fn is_directory<R: Files>(rt: &R, path: &str) -> io::Result<bool> {
+    Ok(fs::symlink_metadata(rt, path)?.is_dir())
 }
 
 /// The folder that is restored into.
 #[derive(Drop)]
-pub struct Ground<R> {
+pub struct Ground<R: Files> {
     pub rt: R,
     /// Its path, as it was told.
     told: String,
@@ -40,34 +60,44 @@ pub struct Ground<R> {
     folder: String,
     /// The number of the next temporary name.
     number: u64,
-    /// The places of all that was made, which are synced at the end: the folder's own, and those of the files
-    /// and directories in it.
-    made: Vec<String>,
+    /// The places of all directories that were made, which are synced at the end: the folder's own, and those in it.
+    directories: Vec<String>,
+    /// The files that were written and aren't synced yet, by the handles that wrote them.
+    files: Vec<R::File>,
+    /// How many bytes were written to these.
+    bytes: u64,
 }
 
 impl<R: Files + AllocGlobal + Clone + Drop> Ground<R> {
-    /// The folder of this path, where nothing is in it, or it isn't there; else `None`. Nothing is made.
+    /// The folder of this path, if it is empty, has a directory `lost+found` alone, or isn't there; else `None`. Nothing is made.
     pub fn of(rt: R, told: &str) -> io::Result<Option<Ground<R>>> {
         if !is_empty(&rt, told)? {
             return Ok(None);
         }
-        let folder = String::from_str(rt.alloc(), without_slash(told))?;
-        let told = String::from_str(rt.alloc(), told)?;
-        let made = Vec::new(rt.alloc());
+        let alloc = rt.alloc();
+        let folder = String::from_str(alloc, without_slash(told))?;
+        let told = String::from_str(alloc, told)?;
         Ok(Some(Ground {
             rt,
             told,
             folder,
             number: 0,
-            made,
+            directories: Vec::new(alloc),
+            files: Vec::new(alloc),
+            bytes: 0,
         }))
     }
 
-    /// Makes the folder where it isn't there, with all above it, so that it lasts.
+    /// Makes the folder if it isn't there, with all above it, so that it lasts. The folder is its owner's alone. If it isn't safe then
+    /// ([`is_safe_target`]), that is an error: somebody else made it meanwhile.
     pub fn open(&mut self) -> io::Result<()> {
         let folder = Folder::of(self.rt.clone()?, self.told.as_str())?;
-        folder.make_whole(Access::Masked)?;
-        self.note(folder.root)
+        folder.make_whole(FolderSync::IfPossible)?;
+        if !is_safe_target(&self.rt, folder.root.as_str())? {
+            return Err(io::Error::from(ErrorKind::PermissionDenied));
+        }
+        self.directories.push(folder.root)?;
+        Ok(())
     }
 
     /// The place of an entry. The error tells, but for memory, that its path isn't one: it is empty, or
@@ -83,35 +113,92 @@ impl<R: Files + AllocGlobal + Clone + Drop> Ground<R> {
         Ok(place_below(self.rt.alloc(), self.folder.as_str(), path)?)
     }
 
-    /// Makes a directory, which isn't there yet.
+    /// Makes a directory, which isn't there yet, and is its owner's alone. A directory `lost+found` may be in the folder already.
     pub fn make(&mut self, path: &Path) -> io::Result<()>
         ensures { OnOk result (IsPath path.now) }
     {
         let place = self.place(path)?;
-        fs::create_dir(&self.rt, place.as_str())?;
-        self.note(place)
-    }
-
-    /// Notes the place of a file or directory that was made.
-    pub fn note(&mut self, place: String) -> io::Result<()> {
-        self.made.push(place)?;
+        match make_private(&self.rt, place.as_str()) {
+            Err(error) if !self.has_lost_and_found(path, place.as_str()) => return Err(error),
+            _ => {}
+        }
+        self.directories.push(place)?;
         Ok(())
     }
 
-    /// Syncs all that was made, so that it lasts.
-    pub fn sync(&self) -> io::Result<()> {
-        for place in &self.made {
-            sync_at(&self.rt, place.as_str())?;
+    /// Whether a path is that of a directory `lost+found` in the folder, which is there, and which no other user can change
+    /// ([`is_safe_target`]).
+    fn has_lost_and_found(&self, path: &Path, place: &str) -> bool {
+        let is_named = match path.as_slice() {
+            [name] => name.as_str() == LOST_AND_FOUND,
+            _ => false,
+        };
+        is_named
+            && is_directory(&self.rt, place).unwrap_or(false)
+            && is_safe_target(&self.rt, place).unwrap_or(false)
+    }
+
+    /// Keeps a file until it is synced. Once 100 files are kept, or 64 MiB were written to them, all of these are synced.
+    ///
+    /// Each is synced by the handle that wrote it. A file system may report to that handle alone that it didn't keep what it took. A
+    /// handle that is opened later gets no error then. An error of `close` isn't seen: the kit drops it.
+    pub fn keep(&mut self, written: Written<R::File>) -> io::Result<()> {
+        self.files.push(written.file)?;
+        self.bytes = self.bytes.saturating_add(written.length);
+        if self.files.len() >= MOST_FILES || self.bytes >= MOST_BYTES {
+            self.sync_files()?;
         }
         Ok(())
     }
 
+    /// Syncs the files that are kept, and closes them.
+    fn sync_files(&mut self) -> io::Result<()> {
+        self.bytes = 0;
+        let files = mem::replace(&mut self.files, Vec::new(self.rt.alloc()));
+        for file in &files {
+            file.sync_all()?;
+        }
+        Ok(())
+    }
+
+    /// Syncs all that was made and isn't synced yet, so that it lasts: the files, and then the directories.
+    pub fn sync(&mut self) -> io::Result<()> {
+        self.sync_files()?;
+        for place in &self.directories {
+            sync_folder(&self.rt, place.as_str(), FolderSync::IfPossible)?;
+        }
+        Ok(())
+    }
+
+    /// Makes a file under this name, which nothing has. It is its owner's alone.
+    fn create(&self, path: &str) -> io::Result<R::File> {
+        OpenOptions::new()
+            .read(true)
+            .write(true)
+            .create_new(true)
+            .mode(PRIVATE_FILE)
+            .open(&self.rt, path)
+    }
+
+    /// The same. If it can't be made while files are kept, these are synced and closed, and it is tried once more: the process may have
+    /// too many open files.
+    fn create_in_any_case(&mut self, path: &str) -> io::Result<R::File> {
+        match self.create(path) {
+            Err(error) if error.kind() != ErrorKind::AlreadyExists && !self.files.is_empty() => {
+                self.sync_files()?;
+                self.create(path)
+            }
+            created => created,
+        }
+    }
+
     /// Begins a file, under the first temporary name that isn't taken.
     ///
-    /// The file is cut to no bytes, though it has none: of a file that was cut so, file systems that put off
-    /// choosing the blocks of a new file begin to write at its end, and the sync then finds it written.
+    /// The file is cut to no bytes, though it has none. Some file systems put off choosing the blocks of a new file. They begin to
+    /// write a file that was cut so once a handle of it is closed, and the sync then finds it written.
     pub fn begin(&mut self, path: &Path) -> io::Result<Draft<R::File>>
-        ensures { OnOk result (IsPath path.now) }
+        ensures path { OnOk result (IsPath path.now) }
+        ensures place { IfOk result (λ draft. string_bytes draft.place ≡ place_of (string_bytes self.old.folder) path.now) }
     {
         let place = self.place(path)?;
         for number in self.number..u64::MAX {
@@ -120,13 +207,14 @@ impl<R: Files + AllocGlobal + Clone + Drop> Ground<R> {
             if temporary.as_str() == place.as_str() {
                 continue;
             }
-            match File::create_new(&self.rt, temporary.as_str()) {
+            match self.create_in_any_case(temporary.as_str()) {
                 Ok(file) => {
                     let _ = file.set_len(0);
                     return Ok(Draft {
                         file,
                         temporary,
                         place,
+                        length: 0,
                     });
                 }
                 Err(error) if error.kind() == ErrorKind::AlreadyExists => {}

@@ -4,7 +4,8 @@
 //! A [`FolderWalk`] gives what a folder holds, as a source of a backup that feeds itself: its directories and its files,
 //! one item after another, each file in pieces, so that nobody holds it all. Links, sockets and the like are left out, and
 //! listed. A [`Restorer`] writes what a restore gives out: each file
-//! under a temporary name until it is whole. At the end it syncs all of it. A [`FileDisk`] is a store's folder as a
+//! under a temporary name until it is whole, and syncs all of it, each file by the handle that wrote it. [`is_safe_target`] says
+//! whether another user could lead a restore of root elsewhere. A [`FileDisk`] is a store's folder as a
 //! [`repo_disk::Disk`]: each of its calls is one or two calls of the system. It holds its folder, by a lock on a file, so
 //! that there is one at a time. [`create_store`] and [`open_store`] look whether the folder may be made a store, or is
 //! one, and give the shelf of `repo_folder` over it: `config`, `ledger`, and the objects as files named by their names in
@@ -30,6 +31,7 @@
 pub use file_disk::FileDisk;
 pub use holding::HoldFile;
 pub use restoring::{Restorer, RestorerError};
+pub use safe_targets::is_safe_target;
 pub use stores::{create_store, has_config, open_store};
 pub use walk_ends::{Skipped, WalkError};
 pub use walking::FolderWalk;
@@ -40,12 +42,14 @@ mod file_disk;
 mod folders;
 mod grounds;
 mod holding;
+mod identities;
 mod listings;
 mod own_names;
 mod phases;
 mod places;
 mod restoring;
 mod rooms;
+mod safe_targets;
 mod stores;
 mod system;
 mod walk_ends;

@@ -7,6 +7,7 @@ ghost use Rattle.repo_files.specs.declared.phases.Standing.{Standing};
 use crate::drafts::{fill, remove, settle};
 use crate::grounds::Ground;
 use crate::phases::Phase;
+use crate::safe_targets::is_safe_target;
 use repo_session::Emission;
 use std::alloc::{AllocError, AllocGlobal};
 use std::fs::Files;
@@ -28,12 +29,14 @@ use std::{io, mem};
 /// come any more. (Of a file whose name begins with a space, `!` or a control character this isn't so, if
 /// the snapshot holds a file of that temporary name beside it.)
 ///
-/// Nothing that is there is written to or replaced: each directory is made, each file is new, and no link
-/// can be on the way, as long as no other program puts one there.
+/// Nothing that is there is written to or replaced: each directory is made, each file is new, and no link can be on the way, as long
+/// as no other program puts one there. One directory may be there before: the `lost+found` of a new file system. For root the way to
+/// the folder is looked at first ([`is_safe_target`]). What is made is its owner's alone.
 ///
-/// Nothing is synced while it is written: a restore that is cut off is begun anew. [`Restorer::finish`] syncs
-/// every file and directory, each once, and only then is all of it on the disk. What a power cut before that
-/// leaves may be any part of it, even a file under its own name that is cut short.
+/// Each file is synced by the handle that wrote it, once it has its own name. Up to 100 files wait for that and stay open; they are
+/// synced earlier if they have 64 MiB together, or if the process can open no further file. [`Restorer::finish`] syncs those that are
+/// left, and then every directory, each once. Only then is all of it on the disk: a power cut before the end may leave any part of it,
+/// even a file under its own name that is cut short. If the file system can't sync directories, that is no error.
 pub struct Restorer<R: Files> {
     ground: Ground<R>,
     phase: Phase<R::File>,
@@ -44,6 +47,8 @@ pub struct Restorer<R: Files> {
 pub enum RestorerError {
     /// It holds something already.
     NotEmpty,
+    /// Root restores, and another user could lead that elsewhere: [`is_safe_target`].
+    NotSafe,
     /// It can't be read, and not because it isn't there: it is a file, say, or is to stand below one.
     Unwritable,
     /// There was no memory.
@@ -60,11 +65,15 @@ impl<R: Files> Model for Restorer<R> {
 }
 
 impl<R: Files + AllocGlobal + Clone + Drop> Restorer<R> {
-    /// A restorer into the folder of this path, which has to be empty, or isn't there. Nothing is made. A link to a folder is
-    /// followed.
+    /// A restorer into the folder of this path, which isn't there, is empty, or has a directory `lost+found` alone. Nothing is made.
+    /// A link to a folder is followed. For root it has to be safe from other users. If that can't be looked at now, it is an error once
+    /// the folder is made.
     pub fn new(rt: R, folder: &str) -> Result<Restorer<R>, RestorerError>
         ensures { IfOk result (λ restorer. restorer ≡ Standing.Untouched) }
     {
+        if let Ok(false) = is_safe_target(&rt, folder) {
+            return Err(RestorerError::NotSafe);
+        }
         match Ground::of(rt, folder) {
             Ok(Some(ground)) => Ok(Restorer {
                 ground,
@@ -76,9 +85,9 @@ impl<R: Files + AllocGlobal + Clone + Drop> Restorer<R> {
         }
     }
 
-    /// Writes the next part. It answers false where the folder, a file or a directory can't be made or written,
-    /// where a path isn't one, and where a part doesn't belong there; nothing more is taken then. A file that is
-    /// open then is removed; what was written before it stays.
+    /// Writes the next part. It returns false if the folder, a file or a directory can't be made or written, or if a file that was
+    /// written before can't be synced. It also returns false if a path isn't one, or if a part doesn't belong there. Nothing more is
+    /// taken then. A file that is open then is removed; what was written before it stays.
     pub fn write(&mut self, emission: &Emission) -> bool
         ensures taken { IsTrue result → TakesEmission self.old emission.now self.new }
         ensures stopped { IsFalse result → self.new ≡ Standing.Stopped }
@@ -93,9 +102,9 @@ impl<R: Files + AllocGlobal + Clone + Drop> Restorer<R> {
         }
     }
 
-    /// Syncs all that was written, and takes no more; where nothing was, the folder is made. It answers false where
-    /// that can't be, where something can't be synced, where a file is open, which is removed then, and where a part was
-    /// refused before.
+    /// Syncs all that was written and isn't synced yet, and takes no more. If nothing was written, it makes the folder. It returns false
+    /// if the folder can't be made, or if something can't be synced, except a directory whose file system has no sync of directories.
+    /// It also returns false if a file is open, which is removed then, or if a part was refused before.
     pub fn finish(&mut self) -> bool
         ensures whole { IsTrue result → StandsBetween self.old }
         ensures ended { self.new ≡ Standing.Stopped }
@@ -135,8 +144,8 @@ fn step<R: Files + AllocGlobal + Clone + Drop>(
             Ok(Phase::InFile(fill(&ground.rt, draft, bytes.as_slice())?))
         }
         (Phase::InFile(draft), Emission::Close) => {
-            let place = settle(&ground.rt, draft)?;
-            ground.note(place)?;
+            let written = settle(&ground.rt, draft)?;
+            ground.keep(written)?;
             Ok(Phase::Between)
         }
         (Phase::InFile(draft), _) => {

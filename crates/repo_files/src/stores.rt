@@ -4,7 +4,7 @@ ghost use Rattle.std.specs.Prelude.{◌≡◌, IfOk, Ok};
 ghost use Rattle.repo_folder.specs.declared.folders.Standing.{Standing};
 
 use crate::file_disk::FileDisk;
-use crate::folders::{Access, Folder};
+use crate::folders::{Folder, FolderSync};
 use crate::holding::HoldFile;
 use repo_folder::{DirShelf, Unopened};
 use repo_store::ShelfError;
@@ -19,7 +19,8 @@ pub fn has_config<R: Files + AllocGlobal + Clone + Drop>(rt: &R, root: &str) -> 
 }
 
 /// The shelf in the folder of this path, which is made where it isn't there, with all that it
-/// holds: its folders and, where none is there, a fresh ledger. A folder that is made is its owner's alone. All of it is on the
+/// holds: its folders and, where none is there, a fresh ledger. What is made is its owner's alone, whatever the process's mask
+/// is: no other user may read a file of the store, or hold its lock. The mode of what is there stays. All of it is on the
 /// disk then, its name in the folder above too, which is shown by tests and no clause. Where it was cut off before, it is made
 /// whole. What else is in the folder stays as it is. The shelf holds the folder until it is dropped: no other one is opened
 /// there meanwhile.
@@ -38,13 +39,14 @@ where
     if folder.has_config()? || !folder.is_free()? {
         return Err(io::Error::from(ErrorKind::AlreadyExists));
     }
-    folder.make_whole(Access::Owner)?;
+    folder.make_whole(FolderSync::Required)?;
     let disk = FileDisk::hold(folder)?;
     or_error(DirShelf::create(disk, rt.alloc()))
 }
 
-/// The shelf in the folder of this path, which has to be a store: its config or its ledger is there. Else
-/// the error is of the kind `NotFound`; where another shelf holds the folder, of the kind `WouldBlock`; where there
+/// The shelf in the folder of this path, which has to be a store. A store has a file `config` that reads as a config, of this version
+/// of the program or of a newer one. Or it has a ledger, and no file `config`. Otherwise
+/// the error is of the kind `NotFound`, and nothing is made; where another shelf holds the folder, of the kind `WouldBlock`; where there
 /// is no memory, of the kind `OutOfMemory`. The shelf holds the folder until it is dropped.
 ///
 /// Nothing but the file by which it is held is made, and nothing is removed: where there is no ledger, each

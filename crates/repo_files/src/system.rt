@@ -3,13 +3,18 @@
 ghost use Rattle.std.specs.Prelude.{IfOk};
 ghost use Rattle.repo_disk.specs.Disks.{HasLength};
 
-use crate::folders::is_folder;
+use crate::folders::{is_folder, make_private};
+use crate::listings::entries_at_rest;
 use repo_disk::Part;
 use repo_name::{Bytes, Text};
 use std::alloc::AllocGlobal;
-use std::fs::{File, Files, OpenFile};
+use std::fs::{File, Files, OpenFile, OpenOptions};
 use std::io::{ErrorKind, Read, Seek, SeekFrom, Write};
+use std::os::unix::fs::OpenOptionsExt;
 use std::{fs, io};
+
+/// The mode of a file that its owner alone may read and write, whatever the process's mask is.
+pub const PRIVATE_FILE: u32 = 0o600;
 
 /// What came of a call on a path; `None` where nothing has it.
 pub fn if_there<T>(outcome: io::Result<T>) -> io::Result<Option<T>> {
@@ -50,29 +55,34 @@ pub fn read_part<R: Files + AllocGlobal>(
     Ok(Part::Found(Bytes::of(bytes)))
 }
 
-/// The names in a folder that are texts: no other one is a store's.
-pub fn names_in<R: Files + AllocGlobal + Clone>(rt: &R, path: &str) -> io::Result<Vec<Text>> {
+/// The names in a folder that are texts: no other one is a store's. A listing that the system cut off is an error, unless two
+/// listings in a row were cut off at the same place.
+pub fn names_in<R: Files + AllocGlobal + Clone + Drop>(
+    rt: &R,
+    path: &str,
+) -> io::Result<Vec<Text>> {
     let mut names = Vec::new(rt.alloc());
-    for entry in fs::read_dir(rt, path)? {
-        match entry {
-            Ok(entry) => names.push(Text::of(String::from_str(rt.alloc(), entry.file_name())?))?,
-            Err(error) if error.kind() == ErrorKind::InvalidFilename => {}
-            Err(error) => return Err(error),
-        }
+    for name in entries_at_rest(rt, path)?.names {
+        names.push(Text::of(name))?;
     }
     Ok(names)
 }
 
-/// Makes a file, or empties the one that is there, and writes all of these bytes.
+/// Makes a file that its owner alone may read, or empties the one that is there, and writes all of these bytes.
 pub fn write_file<R: Files>(rt: &R, path: &str, bytes: &[u8]) -> io::Result<R::File> {
-    let mut file = fs::create(rt, path)?;
+    let mut file = OpenOptions::new()
+        .write(true)
+        .create(true)
+        .truncate(true)
+        .mode(PRIVATE_FILE)
+        .open(rt, path)?;
     file.write_all(bytes)?;
     Ok(file)
 }
 
-/// Makes a folder, where it isn't there.
+/// Makes a folder that its owner alone may look into, where it isn't there.
 pub fn make_folder<R: Files>(rt: &R, path: &str) -> io::Result<()> {
-    match fs::create_dir(rt, path) {
+    match make_private(rt, path) {
         Err(error) if !is_folder(rt, path) => Err(error),
         _ => Ok(()),
     }

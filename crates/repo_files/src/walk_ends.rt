@@ -1,6 +1,8 @@
 //! What a walk leaves out, and why it ends before its end.
 
-use std::alloc::AllocError;
+use std::alloc::{AllocError, Global};
+use std::io;
+use std::io::ErrorKind;
 
 /// What was left out.
 #[derive(Debug, Drop)]
@@ -30,4 +32,20 @@ impl From<AllocError> for WalkError {
     fn from(_: AllocError) -> WalkError {
         WalkError::Memory
     }
+}
+
+/// That this path can't be read.
+pub fn unreadable(alloc: Global, place: &str) -> WalkError {
+    match String::from_str(alloc, place) {
+        Ok(place) => WalkError::Unreadable(place),
+        Err(_) => WalkError::Memory,
+    }
+}
+
+/// Why a call on this path failed.
+pub fn told(alloc: Global, place: &str, error: &io::Error) -> WalkError {
+    if error.kind() == ErrorKind::OutOfMemory {
+        return WalkError::Memory;
+    }
+    unreadable(alloc, place)
 }

@@ -3,15 +3,15 @@
 ghost use Rattle.std.specs.Prelude.{◌≡◌, ◌≤◌, ◌++◌, ◌∷◌, [], ℕ, false, IfOk, IfErr, IfSome, OnOk, OnErr, length};
 ghost use Rattle.repo_feeding.specs.Sources.{FitsRoom};
 
-use crate::listings::{names_in, told, unreadable};
+use crate::identities::{Identity, Links, look};
+use crate::listings::entries_in;
 use crate::places::{place_in, without_slash};
-use crate::walk_ends::{Skipped, WalkError};
+use crate::walk_ends::{Skipped, WalkError, told, unreadable};
 use repo_feeding::{Found, Source};
 use repo_tree::is_component;
 use std::alloc::{AllocError, AllocGlobal, Global};
 use std::fs::{File, Files, Metadata, OpenFile};
 use std::io::{ErrorKind, Read};
-use std::os::unix::fs::MetadataExt;
 use std::{fs, io};
 
 /// A directory that is open, by its place, and the names in it that are left, the next one last.
@@ -19,6 +19,16 @@ use std::{fs, io};
 struct Level {
     place: String,
     names: Vec<String>,
+}
+
+/// A directory that is to be listed: its path, the place that stands before the names in it, whether a link at the path is followed,
+/// and what the path led to when it was looked at.
+#[derive(Clone, Copy)]
+struct Directory<'a> {
+    word: &'a str,
+    place: &'a str,
+    links: Links,
+    found: Identity,
 }
 
 /// A file that is open: its place, how long it was when it was opened, and how much of it was read.
@@ -38,10 +48,17 @@ struct OpenedFile<F> {
 /// and what has a name that isn't UTF-8, is left out, and noted. The error names the first path that can't be read, or
 /// whose name no backup can hold: the word given, and below it the names joined by `/`.
 ///
-/// Nothing is proved of what files hold: a file that is written meanwhile may be read half old, half new, and a directory
-/// may be exchanged for a link between the look at it and its listing. A file is read only where what was opened is the
-/// very file that was looked at. One that ends before the length that it had then can't be read; one that grew is read
-/// to its end.
+/// Nothing is proved of what files hold: a file that is written meanwhile may be read half old, half new. A file is read only if
+/// what was opened is the very file that was looked at, and up to the length that it had when it was opened: what it grows by
+/// behind that isn't read. One that ends before that length can't be read.
+///
+/// A directory is listed twice, and what either listing has is taken. It can't be read if its path leads to something else behind
+/// that than before: so neither a link that was put in its place is followed, nor one that was removed taken for an empty one.
+///
+/// The walk doesn't notice a directory that is exchanged for a link, and exchanged back, while it is listed. It doesn't notice either
+/// that a directory is exchanged after it was listed. The kit opens a file by its path alone, and has no flags: the opening follows
+/// links, and waits for a writer of a pipe. If a file is replaced by a pipe between the look at it and its opening, the walk waits. If
+/// it is replaced by a device, the walk opens the device, and closes it.
 #[derive(Drop)]
 pub struct FolderWalk<'a, R: Files> {
     rt: &'a R,
@@ -68,7 +85,17 @@ impl<'a, R: Files + AllocGlobal + Clone + Drop> FolderWalk<'a, R> {
             skipped: Vec::new(rt.alloc()),
             failed: false,
         };
-        walk.open(folder, without_slash(folder))?;
+        let found = match look(rt, folder, Links::Followed) {
+            Ok(found) => found,
+            Err(error) => return Err(told(rt.alloc(), folder, &error)),
+        };
+        let directory = Directory {
+            word: folder,
+            place: without_slash(folder),
+            links: Links::Followed,
+            found: Identity::of(&found),
+        };
+        walk.open(&directory)?;
         Ok(walk)
     }
 
@@ -79,12 +106,14 @@ impl<'a, R: Files + AllocGlobal + Clone + Drop> FolderWalk<'a, R> {
         self.skipped.as_slice()
     }
 
-    /// Lists a directory, and opens it, by the place that stands before the names in it.
-    fn open(&mut self, word: &str, place: &str) -> Result<(), WalkError>
+    /// Lists a directory, and opens it.
+    fn open(&mut self, directory: &Directory<'_>) -> Result<(), WalkError>
         ensures { self.new.failed ≡ self.old.failed }
     {
         let alloc = self.rt.alloc();
-        let mut listing = match names_in(self.rt, word) {
+        let Directory { word, place, .. } = *directory;
+        let listed = entries_in(self.rt, word, directory.links, directory.found);
+        let mut listing = match listed {
             Ok(listing) => listing,
             Err(error) => return Err(told(alloc, word, &error)),
         };
@@ -162,7 +191,13 @@ impl<'a, R: Files + AllocGlobal + Clone + Drop> FolderWalk<'a, R> {
             Err(error) => return Err(told(self.rt.alloc(), place.as_str(), &error)),
         };
         if found.is_dir() {
-            self.open(place.as_str(), place.as_str())?;
+            let directory = Directory {
+                word: place.as_str(),
+                place: place.as_str(),
+                links: Links::NotFollowed,
+                found: Identity::of(&found),
+            };
+            self.open(&directory)?;
             return Ok(Some(Found::Dir(name)));
         }
         if !found.is_file() {
@@ -192,14 +227,12 @@ impl<'a, R: Files + AllocGlobal + Clone + Drop> FolderWalk<'a, R> {
         let Some(opened) = &mut self.file else {
             return self.next_entry();
         };
+        if opened.read >= opened.length {
+            self.file = None;
+            return Ok(Found::Close);
+        }
         match opened.read_on(room) {
-            Ok(0) if opened.read < opened.length => {
-                Err(unreadable(self.rt.alloc(), opened.place.as_str()))
-            }
-            Ok(0) => {
-                self.file = None;
-                Ok(Found::Close)
-            }
+            Ok(0) => Err(unreadable(self.rt.alloc(), opened.place.as_str())),
             Ok(count) => Ok(Found::Bytes(count)),
             Err(error) => Err(told(self.rt.alloc(), opened.place.as_str(), &error)),
         }
@@ -220,19 +253,21 @@ fn are_possible(alloc: Global, place: &str, names: &[String]) -> Result<(), Walk
 fn open_file<R: Files>(rt: &R, place: &str, found: &Metadata) -> io::Result<(R::File, u64)> {
     let file = File::open(rt, place)?;
     let opened = file.metadata()?;
-    if !opened.is_file() || opened.dev() != found.dev() || opened.ino() != found.ino() {
+    if !opened.is_file() || Identity::of(&opened) != Identity::of(found) {
         return Err(io::Error::from(ErrorKind::Other));
     }
     Ok((file, opened.len()))
 }
 
 impl<F: Read> OpenedFile<F> {
-    /// Reads on: how many bytes, none at the end.
+    /// Reads on, up to the length that the file had when it was opened: how many bytes, none at its end.
     fn read_on(&mut self, room: &mut [u8]) -> io::Result<usize>
         ensures { IfOk result (λ count. count ≤ length room.new) }
     {
+        let left = self.length.saturating_sub(self.read);
+        let most = left.min(room.len() as u64) as usize;
         for _ in 0..u64::MAX {
-            match self.file.read(room) {
+            match self.file.read(&mut room[..most]) {
                 Ok(count) => {
                     self.read = self.read.saturating_add(count as u64);
                     return Ok(count);
