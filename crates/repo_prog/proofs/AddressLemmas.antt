@@ -1,12 +1,13 @@
 -- Where an address is split: at its last colon, behind which its port stands.
-use Rattle.std.proofs.Common.{◌≡◌, ◌≢◌, ◌++◌, ◌∷◌, ◌∙◌, [], ℕ, zero, suc, ◌+◌, ◌≤◌, ◌<◌, List, Option, Some, None, MatchOption, Result, Ok, Err, is_ok, Bool, false, IsTrue, ◌==◌, Bor, length, take, drop, get_or, eqb, refl, ap, ap₂, sym, subst, ⊎_elim, arith, take-append-drop}
-use Rattle.std.specs.Str.Parse.{AllDigits, ParsesUnsigned}
+use Rattle.std.proofs.Common.{◌≡◌, ◌≢◌, ◌++◌, ◌∷◌, ◌∙◌, [], ℕ, zero, suc, ◌+◌, ◌≤◌, ◌<◌, List, Option, Some, None, IfNone, MatchOption, Result, Ok, Err, is_ok, Bool, false, IsTrue, ◌==◌, Bor, length, take, drop, get_or, eqb, refl, ap, ap₂, sym, subst, ⊎_elim, arith, take-append-drop}
+use Rattle.std.specs.Result.{result_ok}
+use Rattle.std.specs.Str.Parse.{AllDigits, ParsesUnsigned, digits_value, without_leading_plus}
 use Rattle.std.specs.Str.Pattern.{RFindsChar}
 use Rattle.std.specs.Str.{NoCharPasses}
 use Rattle.std.proofs.lemmas.Bool.{cases_eq, ne_eqb, true≢false}
 use Rattle.std.proofs.lemmas.Str.Parse.{digit_from_value, without_leading_plus_none, without_leading_plus_plus}
 use Rattle.std.proofs.lemmas.Str.Pattern.{NoCharPasses-char, drop_at_char}
-use Rattle.repo_prog.specs.Addresses.{IsPort, IsAddress}
+use Rattle.repo_prog.specs.Addresses.{IsPort, IsAddress, LeavesPort}
 
 -- no byte of a text is a colon
 abbrev pub LacksColon : List ℕ → Type 0
@@ -74,3 +75,28 @@ pub address_parts : (text host port : List ℕ) → text ≡ host ++ 58 ∷ port
 address_parts text host port e lacks is =
     let parts = one_split is.0 is.1 host port (sym is.2 ∙ e) (port_lacks is.1 is.4) lacks in
     (subst (λ h. h ≢ []) parts.0 is.3, subst IsPort parts.1 is.4)
+
+-- and where it leaves the port to the system, that of its split is 0
+pub left_port : (text host port front : List ℕ) → text ≡ host ++ 58 ∷ port → LacksColon port → LeavesPort text front → IsPort port × (digits_value 10 (without_leading_plus port) ≡ 0)
+left_port text host port front e lacks is =
+    let parts = one_split front is.0 host port (sym is.1 ∙ e) (port_lacks is.0 is.2) lacks in
+    (subst IsPort parts.1 is.2, subst (λ p. digits_value 10 (without_leading_plus p) ≡ 0) parts.1 is.3)
+
+-- such a port is read as 0
+pub reads_zero : {E : Type 0} (port : List ℕ) (r : Result ℕ E) → ParsesUnsigned 16 10 port r → IsPort port → digits_value 10 (without_leading_plus port) ≡ 0 → result_ok r ≡ Some 0
+reads_zero port (Ok n) h is e = ap Some (h.1 ∙ e)
+reads_zero port (Err error) h is e = absurd (h is)
+
+-- what is a number isn't none, nor another number
+pub some_not_none : (o : Option ℕ) (n : ℕ) → o ≡ None → o ≡ Some n → ⊥
+some_not_none None n e f = absurd (cc)
+some_not_none (Some m) n e f = absurd (cc)
+
+pub one_number : (o : Option ℕ) (m n : ℕ) → o ≡ Some m → o ≡ Some n → m ≡ n
+one_number None m n e f = absurd (cc)
+one_number (Some k) m n e f = cc
+
+-- where there is none, so it is
+pub of_none : {A : Type 0} (X : Type 0) (r : Option A) → X → IfNone r X
+of_none X None x = x
+of_none X (Some a) x = tt

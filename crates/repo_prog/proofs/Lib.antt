@@ -1,5 +1,6 @@
 pub mod LineLemmas
 pub mod AddressLemmas
+pub mod ListenLemmas
 pub mod WordLemmas
 pub mod TalkLemmas
 pub mod AskLemmas

@@ -1,8 +1,13 @@
 -- What commands tell of their jobs.
-use Rattle.std.proofs.Common.{◌≡◌, ◌≢◌, ◌⊎◌, List, Option, ℕ, inl, inr, ⊎_elim, refl, sym, subst}
+use Rattle.std.proofs.Common.{◌≡◌, ◌≢◌, ◌⊎◌, List, Option, Result, Ok, Err, OnOk, OnErr, ℕ, inl, inr, ⊎_elim, refl, sym, subst}
 use Rattle.repo_prog.specs.Shown.{Tells, TellsEither, unflawed}
 use Rattle.repo_prog.specs.Tellings.{Shows}
 use Rattle.repo_prog.specs.declared.status.Status.{Status}
+
+-- what holds where it went well, or what holds where it didn't
+pub either_way : {T E A B : Type 0} (r : Result T E) → OnOk r A → OnErr r B → A ⊎ B
+either_way (Ok x) a b = inl a
+either_way (Err error) a b = inr b
 
 module _ {A : Type 0} (Came : A → Type 0) (lines : A → List ℕ) (before after : Option (List ℕ)) where
   -- the lines of what it came to were to be written

@@ -9,3 +9,7 @@ IsPort text = IsNumeral 10 (without_leading_plus text) × (digits_value 10 (with
 -- an address, as a socket's call takes it: a host that isn't empty, a colon, and a port
 abbrev pub IsAddress : List ℕ → Type 0
 IsAddress text = (host port : List ℕ) × (text ≡ host ++ (codes ":" ++ port)) × (host ≢ []) × IsPort port
+
+-- an address that leaves the port to the system, behind this host: the port is 0
+abbrev pub LeavesPort : List ℕ → List ℕ → Type 0
+LeavesPort text host = (port : List ℕ) × (text ≡ host ++ (codes ":" ++ port)) × IsPort port × (digits_value 10 (without_leading_plus port) ≡ 0)

@@ -1,4 +1,4 @@
-use Rattle.std.specs.Prelude.{◌≡◌, ◌≢◌, ◌⊎◌, ◌<◌, ◌≤◌, ◌++◌, ◌∷◌, [], ⊤, ℕ, List, Option, Some, None, Ok, Err, codes, string_bytes}
+use Rattle.std.specs.Prelude.{◌≡◌, ◌≢◌, ◌⊎◌, ◌<◌, ◌≤◌, ◌++◌, ◌∷◌, [], ⊤, ℕ, List, Option, Some, None, Ok, Err, codes, decimal, string_bytes}
 use Rattle.std.specs.Duration.{as_nanos}
 use Rattle.std.specs.declared.time.Duration.{Duration}
 use Rattle.std.specs.Io.KnownBytes.{Appends}
@@ -25,7 +25,7 @@ use Rattle.repo_prog.specs.declared.serve.Serving.{Serving}
 use Rattle.repo_prog.specs.declared.status.Status.{Status}
 use Rattle.repo_prog.specs.declared.words.Making.{Making}
 use Rattle.repo_prog.specs.declared.words.Order.{Order}
-use Rattle.repo_prog.specs.Addresses.{IsAddress}
+use Rattle.repo_prog.specs.Addresses.{IsAddress, LeavesPort}
 use Rattle.repo_prog.specs.FramesRun.{FramesGive}
 use Rattle.repo_prog.specs.HexLines.{line_feed}
 
@@ -79,11 +79,15 @@ choice_for (Some host) policy = Choice.KeepOf host policy
 abbrev pub HasPolicy : Option (List ℕ) → Policy → Type 0
 HasPolicy host policy = (host ≢ None) ⊎ ((policy.last ≢ 0) ⊎ (policy.daily ≢ 0))
 
+-- a word that is the path of a folder: it isn't empty
+abbrev pub IsFolderWord : List ℕ → Type 0
+IsFolderWord text = text ≢ []
+
 -- an errand within its limits
 abbrev pub IsErrand : Errand → Type 0
-IsErrand (Errand.Backup host folder) = IsHost host
+IsErrand (Errand.Backup host folder) = IsHost host × IsFolderWord (string_bytes folder)
 IsErrand Errand.Snapshots = ⊤
-IsErrand (Errand.Restore name folder) = ⊤
+IsErrand (Errand.Restore name folder) = IsFolderWord (string_bytes folder)
 IsErrand (Errand.Forget choice) = IsChoice choice
 IsErrand (Errand.Foresee choice) = IsChoice choice
 IsErrand Errand.Prune = ⊤
@@ -113,8 +117,8 @@ abbrev pub IsOrder : Order → Type 0
 IsOrder Order.Frames = ⊤
 IsOrder Order.Play = ⊤
 IsOrder Order.Loop = ⊤
-IsOrder (Order.Init folder making) = IsMaking making
-IsOrder (Order.Serve folder address serving) = IsAddress (string_bytes address) × IsServing serving
+IsOrder (Order.Init folder making) = IsFolderWord (string_bytes folder) × IsMaking making
+IsOrder (Order.Serve folder address serving) = IsFolderWord (string_bytes folder) × IsAddress (string_bytes address) × IsServing serving
 IsOrder (Order.Client address errand retry idle) = IsAddress (string_bytes address) × IsErrand errand × IsIdle idle
 
 -- an order to check a store
@@ -163,6 +167,24 @@ created_line id = codes "created " ++ encode_lower id.0 ++ line_feed ∷ []
 -- the line that tells that a server listens
 abbrev pub listening_line : List ℕ
 listening_line = codes "listening" ++ line_feed ∷ []
+
+-- the line with the address at which a server listens
+abbrev pub address_line : List ℕ → ℕ → List ℕ
+address_line host port = codes "address " ++ (host ++ (codes ":" ++ (decimal port ++ codes "\n")))
+
+-- what a server at this address writes once it listens: that it listens, and, if the address leaves the port to the system, the address with the port that it has
+abbrev pub ListensBy : List ℕ → List ℕ → Type 0
+ListensBy address lines =
+    ((lines ≡ listening_line) × ((host : List ℕ) → ¬ LeavesPort address host)) ⊎ ((host : List ℕ) × (port : ℕ) × LeavesPort address host × (lines ≡ listening_line ++ address_line host port))
+
+-- it was written
+abbrev pub Listens : List ℕ → Option (List ℕ) → Option (List ℕ) → Type 0
+Listens address start contents = (lines : List ℕ) × ListensBy address lines × Appends start contents lines
+
+-- nothing of it was, or some first part, or all of it
+abbrev pub ListensAtMost : List ℕ → Option (List ℕ) → Option (List ℕ) → Type 0
+ListensAtMost address start contents =
+    (contents ≡ start) ⊎ ((lines : List ℕ) × ListensBy address lines × (AppendsPart start contents lines ⊎ Appends start contents lines))
 
 -- what making a store gives: it was made, and its line was written, or some first part of the line, and not all of it; or an error left what it leaves, and nothing was written
 abbrev pub InitGives : Config → Store → Option (List ℕ) → Status → Store → Option (List ℕ) → Type 0

@@ -1,5 +1,5 @@
 -- What a client's errand gives: what its command does.
-use Rattle.std.specs.Prelude.{◌≡◌, ◌≢◌, ◌⊎◌, ◌≤◌, ℕ, List, Option, Some, None, Result, Ok, Err}
+use Rattle.std.specs.Prelude.{◌≡◌, ◌≢◌, ◌⊎◌, ◌≤◌, ℕ, List, Option, Some, None, Result, Ok, Err, string_bytes}
 use Rattle.clap.specs.Values.{kind_of}
 use Rattle.clap.specs.declared.error.kind.ErrorKind.{ErrorKind}
 use Rattle.std.specs.Io.KnownBytes.{Appends}
@@ -16,7 +16,7 @@ use Rattle.repo_prog.specs.declared.words.WordsError.{WordsError}
 use Rattle.repo_prune.specs.Forgetting.{IsNoPolicy}
 use Rattle.repo_prog.specs.Asking.{Streams, streams, Asked, RemovesLocks, request_of}
 use Rattle.repo_prog.specs.Tellings.{IsCutShort, locks_told, refresh_told}
-use Rattle.repo_prog.specs.Commands.{FramesGives, IsEnd, LoopGives, PlayGives, created_line, listening_line}
+use Rattle.repo_prog.specs.Commands.{FramesGives, IsEnd, Listens, ListensAtMost, LoopGives, PlayGives, created_line}
 use Rattle.repo_dial.specs.Dialing.{Connections, Dials, HangsUp, unknown}
 use Rattle.repo_dial.specs.Ends.{ConnectionEnds}
 use Rattle.repo_prog.specs.Jobs.{ListObeyed, RestoreObeyed, ForgetObeyed, PruneObeyed, UpgradeObeyed, CheckObeyed, BackupObeyed}
@@ -73,8 +73,8 @@ OrderGives Order.Play input left start status contents = (text : List ℕ) → i
 OrderGives Order.Loop input left start status contents = (text : List ℕ) → input ≡ Some text → LoopGives text start status left contents
 OrderGives (Order.Init folder making) input left start status contents = (left ≡ input) × IsEnd status × (status ≡ Status.Done → (id : Instance) × IsInstance id × Appends start contents (created_line id))
     × (status ≡ Status.Failed → (contents ≡ start) ⊎ ((id : Instance) × IsInstance id × IsCutShort start contents (created_line id)))
-OrderGives (Order.Serve folder address serving) input left start status contents = (left ≡ input) × IsEnd status × (status ≡ Status.Done → Appends start contents listening_line)
-    × (status ≡ Status.Failed → IsCutShort start contents listening_line ⊎ Appends start contents listening_line)
+OrderGives (Order.Serve folder address serving) input left start status contents = (left ≡ input) × IsEnd status × (status ≡ Status.Done → Listens (string_bytes address) start contents)
+    × (status ≡ Status.Failed → ListensAtMost (string_bytes address) start contents)
 OrderGives (Order.Client address errand retry idle) input left start status contents = (left ≡ input) × AddressGives errand retry start status contents
 
 -- help that was asked for, or the version

@@ -1,5 +1,5 @@
 -- The lines that the commands of clients write.
-use Rattle.std.specs.Prelude.{◌⊎◌, ◌≡◌, ◌++◌, ℕ, Bool, true, false, List, codes, decimal, Option, Some, None}
+use Rattle.std.specs.Prelude.{◌⊎◌, ◌≡◌, ◌++◌, [], ℕ, Bool, true, false, List, codes, decimal, Option, Some, None}
 use Rattle.std.specs.Io.KnownBytes.{Appends}
 use Rattle.std.specs.List.{flat_map}
 use Rattle.repo_name.specs.Naming.{hex_of}
@@ -8,9 +8,13 @@ use Rattle.repo_name.specs.declared.rows.LockRow.{LockRow}
 use Rattle.repo_name.specs.declared.tokens.Token.{Token}
 use Rattle.repo_tree.specs.declared.snapshots.Snapshot.{Snapshot}
 use Rattle.repo_wire.specs.declared.messages.Say.{Say}
-use Rattle.repo_session.specs.Results.{thing_word}
+use Rattle.repo_name.specs.declared.kinds.Thing.{Thing}
+use Rattle.repo_wire.specs.Messages.{code_number}
+use Rattle.repo_session.specs.Results.{result_text, thing_word}
 use Rattle.repo_session.specs.declared.outcomes.CheckFault.{CheckFault}
+use Rattle.repo_session.specs.declared.outcomes.End.{End}
 use Rattle.repo_session.specs.declared.outcomes.FaultKind.{FaultKind}
+use Rattle.repo_session.specs.declared.outcomes.Outcome.{Outcome}
 use Rattle.repo_store.specs.Output.{AppendsPart}
 use Rattle.repo_prog.specs.Printing.{printed}
 use Rattle.repo_prog.specs.declared.status.Status.{Status}
@@ -96,6 +100,38 @@ refreshed_line = codes "refreshed\n"
 -- a lock was removed
 abbrev pub removed_line : Token → List ℕ
 removed_line token = codes "removed " ++ (decimal token.0 ++ codes "\n")
+
+-- an object: what it is called, and its name
+abbrev pub object_line : Thing → Name → List ℕ
+object_line thing name = thing_word thing ++ (codes " " ++ (hex_of name ++ codes "\n"))
+
+-- the object that is missing or can't be read, if a job ended by one
+abbrev pub end_lines : End → List ℕ
+end_lines (End.Missing thing name) = object_line thing name
+end_lines (End.BadObject thing name) = object_line thing name
+end_lines _ = []
+
+-- the same of what a job came to
+abbrev pub ended_lines : Option Outcome → List ℕ
+ended_lines (Some (Outcome.Ended end)) = end_lines end
+ended_lines _ = []
+
+-- a job that didn't do what it was for: how it ended, and on a line of its own the object that it ended by, if there is one
+abbrev pub unfinished_lines : Option Outcome → List ℕ
+unfinished_lines outcome = result_text outcome false ++ (codes "\n" ++ ended_lines outcome)
+
+-- a reply that isn't what was asked for
+abbrev pub unwelcome_line : Say → List ℕ
+unwelcome_line (Say.Refused code) = codes "refused " ++ (decimal (code_number code) ++ codes "\n")
+unwelcome_line _ = codes "badreply\n"
+
+-- these bytes were written, or some first part of them
+abbrev pub WritesFirst : List ℕ → Option (List ℕ) → Option (List ℕ) → Type 0
+WritesFirst bytes start contents = Appends start contents bytes ⊎ AppendsPart start contents bytes
+
+-- these lines, which say why a command failed, were written, or that there was no memory for them; what couldn't be written is lost
+abbrev pub TellsWhy : List ℕ → Option (List ℕ) → Option (List ℕ) → Type 0
+TellsWhy lines start contents = WritesFirst lines start contents ⊎ WritesFirst (codes "out of memory\n") start contents
 
 -- nothing was written, or some first part of these bytes, and not all of them
 abbrev pub IsCutShort : Option (List ℕ) → Option (List ℕ) → List ℕ → Type 0

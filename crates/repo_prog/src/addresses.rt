@@ -1,7 +1,7 @@
 //! The addresses of servers, as words of the command line.
 
-ghost use Rattle.std.specs.Prelude.{◌↔◌, IfOk, IsTrue, codes, string_bytes};
-ghost use Rattle.repo_prog.specs.Addresses.{IsAddress};
+ghost use Rattle.std.specs.Prelude.{◌↔◌, ℕ, List, IfNone, IfOk, IfSome, IsTrue, codes, string_bytes};
+ghost use Rattle.repo_prog.specs.Addresses.{IsAddress, LeavesPort};
 ghost use Rattle.repo_prog.specs.Words.{IsWord};
 
 use crate::words::{WordsError, word_of};
@@ -17,6 +17,16 @@ pub fn is_address(text: &str) -> bool
         Some((host, port)) => !host.is_empty() && port.parse::<u16>().is_ok(),
         None => false,
     }
+}
+
+/// The host of an address that leaves the port to the system: it is 0. `None`: the address names a port, or is none.
+pub fn host_alone(text: &str) -> Option<&str>
+    ensures some { IfSome result (λ host. LeavesPort text.now host.now) }
+    ensures none { IfNone result ((host : List ℕ) → ¬ LeavesPort text.now host) }
+{
+    let (host, port) = text.rsplit_once(':')?;
+    let port = port.parse::<u16>().ok()?;
+    if port == 0 { Some(host) } else { None }
 }
 
 /// The address among the words of a command.

@@ -7,6 +7,7 @@ ghost use Rattle.repo_prog.specs.Spelled.{AddsCommands, AddsWords, IsCommand, ag
 ghost use Rattle.repo_prog.specs.Words.{AskFor, IsRetryOf};
 
 use crate::choosing::{choice_of, choice_words};
+use crate::folder_words::folder_of;
 use crate::help::{
     BACKUP, CHECK, FORGET, LOCKS, PRUNE, REFRESH, RESTORE, SNAPSHOTS, UNLOCK, UPGRADE,
 };
@@ -207,7 +208,7 @@ fn backup_errand(alloc: Global, words: &ArgMatches) -> Result<Errand, WordsError
     if !is_host(host.as_str()) {
         return Err(WordsError::BadArgument);
     }
-    let folder = word_of(alloc, words, "PATH")?;
+    let folder = folder_of(alloc, words, "PATH")?;
     Ok(Errand::Backup {
         host: Text::of(host),
         folder,
@@ -223,7 +224,7 @@ fn restore_errand(alloc: Global, words: &ArgMatches) -> Result<Errand, WordsErro
     let Ok(name) = Name::from_hex(word.as_str()) else {
         return Err(WordsError::BadArgument);
     };
-    let folder = word_of(alloc, words, "DIR")?;
+    let folder = folder_of(alloc, words, "DIR")?;
     Ok(Errand::Restore { name, folder })
 }
 

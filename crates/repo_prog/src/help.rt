@@ -104,8 +104,9 @@ Exit status:
 
 /// Below the help of `vault prune`.
 pub const PRUNE: &str = "\
-What was forgotten takes up room until then. Nobody else can use the store while it runs. Where it ends before it is
-done, every snapshot still has all that it needs, and the next prune goes on.
+What was forgotten takes up room until then. Nobody else can use the store while it runs. If it ends before it is
+done, every snapshot still has all that it had, and the next prune goes on. With `missing pack` an index names a pack
+that is gone: nothing was changed, and each prune ends so until the pack is back or no index names it.
 
 With --retry N it connects again where a connection ends or can't be had, N times at most and without a pause, and
 goes on where it stood. The error of the last try is told.

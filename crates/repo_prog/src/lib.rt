@@ -34,6 +34,7 @@ mod connecting;
 mod consoles;
 mod errands;
 mod errors;
+mod folder_words;
 mod foresee;
 mod forget;
 mod frames_engine;

@@ -6,7 +6,15 @@ use repo_dial::{Pair, pair_of};
 use repo_store::Channel;
 use std::io::{Read, Write};
 use std::net::{OpenListener, OpenStream};
+use std::rt::Clock;
+use std::thread::sleep;
 use std::time::Duration;
+
+/// How many milliseconds pass until the next try if a connection couldn't be taken.
+const PAUSE: u64 = 100;
+
+/// How many tries there are for one connection, those of a minute.
+const TRIES: u64 = 600;
 
 /// A listener, at which one connection after another is waited for.
 pub trait Listen {
@@ -28,23 +36,41 @@ pub trait Listen {
         ensures { leaves self.old connection self.new };
 }
 
-/// The connections that arrive at a bound listener, each of which ends once it is idle for so long.
+/// Takes the next connection of a listener. If that fails, as without free descriptors, it tries again after a pause, for a minute
+/// in all.
+fn take<C: Clock, L: OpenListener>(clock: &C, listener: &L) -> Option<L::Stream> {
+    for _ in 0..TRIES {
+        match listener.accept() {
+            Ok((stream, _)) => return Some(stream),
+            Err(_) => sleep(clock, Duration::from_millis(PAUSE)),
+        }
+    }
+    None
+}
+
+/// The connections that arrive at a bound listener, each of which ends once it is idle for so long. A connection can't be had if none
+/// could be taken for a minute, or if no second handle of one that was taken could be made.
 #[derive(Drop)]
-pub struct Arrivals<'a, L> {
+pub struct Arrivals<'a, C, L> {
+    clock: &'a C,
     listener: &'a L,
     idle: Option<Duration>,
 }
 
-impl<'a, L> Arrivals<'a, L> {
+impl<'a, C, L> Arrivals<'a, C, L> {
     /// Those of this listener. With a time for `idle` each read and each write of one fails that waits for longer.
-    pub fn at(listener: &'a L, idle: Option<Duration>) -> Arrivals<'a, L>
-        ensures { result ≡ record { listener = listener.entry; idle = idle } }
+    pub fn at(clock: &'a C, listener: &'a L, idle: Option<Duration>) -> Arrivals<'a, C, L>
+        ensures { result ≡ record { clock = clock.entry; listener = listener.entry; idle = idle } }
     {
-        Arrivals { listener, idle }
+        Arrivals {
+            clock,
+            listener,
+            idle,
+        }
     }
 }
 
-impl<L: OpenListener> Listen for Arrivals<'_, L>
+impl<C: Clock, L: OpenListener> Listen for Arrivals<'_, C, L>
 where
     L::Stream: Read + Write + OpenStream,
 {
@@ -57,9 +83,9 @@ where
     ghost leaves = { λ old left new. new ≡ old };
 
     fn accept(&mut self) -> Option<Pair<L::Stream, L::Stream>> {
-        match self.listener.accept() {
-            Ok((stream, _)) => pair_of(stream, self.idle),
-            Err(_) => None,
+        match take(self.clock, self.listener) {
+            Some(stream) => pair_of(stream, self.idle),
+            None => None,
         }
     }
 

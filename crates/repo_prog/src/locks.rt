@@ -28,7 +28,7 @@ fn show_locks<O: Write, F: Write>(alloc: Global, say: &Say, console: &mut Consol
     ensures status { IsEnd result }
 {
     let Say::LockList(rows) = say else {
-        return unwelcome(say, &mut console.faults);
+        return unwelcome(alloc, say, &mut console.faults);
     };
     show_made(lock_lines(alloc, rows.as_slice()), console)
 }
@@ -52,14 +52,14 @@ pub fn locks_command<E: KnownChannel, O: Write, F: Write>(
 }
 
 /// Tells that a lock has a new time, or of a reply that says something else.
-fn show_refresh<O: Write, F: Write>(say: &Say, console: &mut Console<O, F>) -> Status
+fn show_refresh<O: Write, F: Write>(alloc: Global, say: &Say, console: &mut Console<O, F>) -> Status
     ensures tells { TellsIfThere (refresh_told say.now) result (O.contents console.old.output) (O.contents console.new.output) }
     ensures silent { result ≡ Status.Done → console.new.faults ≡ console.old.faults }
     ensures status { IsEnd result }
 {
     match say {
         Say::Done => show("refreshed\n", console),
-        _ => unwelcome(say, &mut console.faults),
+        _ => unwelcome(alloc, say, &mut console.faults),
     }
 }
 
@@ -87,7 +87,7 @@ pub fn refresh_command<E: KnownChannel, O: Write, F: Write>(
 {
     let refresh = refresh_of(token, caller.time);
     match ask_once(alloc, channel, &caller.request(1, refresh)) {
-        Ok(reply) => show_refresh(&reply.say, console),
+        Ok(reply) => show_refresh(alloc, &reply.say, console),
         Err(error) => failed(&mut console.faults, &error),
     }
 }
@@ -105,7 +105,7 @@ fn show_removal<O: Write, F: Write>(
 {
     match say {
         Say::Done => show_made(removed_line(alloc, token), console),
-        _ => unwelcome(say, &mut console.faults),
+        _ => unwelcome(alloc, say, &mut console.faults),
     }
 }
 
@@ -204,7 +204,7 @@ pub fn unlock_command<E: KnownChannel, O: Write, F: Write>(
         Err(error) => return failed(&mut console.faults, &error),
     };
     let Say::LockList(rows) = &reply.say else {
-        return unwelcome(&reply.say, &mut console.faults);
+        return unwelcome(alloc, &reply.say, &mut console.faults);
     };
     match chosen(alloc, rows.as_slice(), caller.time, all) {
         Ok(tokens) => remove_locks(alloc, caller, tokens.as_slice(), channel, console),

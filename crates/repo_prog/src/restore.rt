@@ -87,6 +87,7 @@ fn not_begun<F: Write>(error: RestorerError, faults: &mut F) -> Status
 {
     match error {
         RestorerError::NotEmpty => failed(faults, &"target not empty"),
+        RestorerError::NotSafe => failed(faults, &"target not safe"),
         RestorerError::Unwritable => failed(faults, &DriveError::Sink),
         RestorerError::Memory => failed(faults, &DriveError::Memory),
     }
@@ -94,7 +95,7 @@ fn not_begun<F: Write>(error: RestorerError, faults: &mut F) -> Status
 
 /// `vault restore`: restores a snapshot into a folder, which has to be empty, or isn't there: it is made for the first thing
 /// that is given out, or where the restore is complete. What was written before an end stays. All of it is synced before it is
-/// told as complete.
+/// told as complete. For root the folder has to be safe from other users ([`is_safe_target`](repo_files::is_safe_target)).
 ///
 /// After the first connection `route.retry` more are made at most; the folder is begun once, whatever connections it takes.
 /// That the folder then holds what was given out is no clause, since no contract sees a file.

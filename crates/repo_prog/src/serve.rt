@@ -1,21 +1,22 @@
 //! `vault serve`.
 
-ghost use Rattle.std.specs.Prelude.{◌≡◌, ◌≤◌, ◌<◌, ◌↔◌, ◌⊎◌, Option, true, IsOk};
+ghost use Rattle.std.specs.Prelude.{◌≡◌, ◌≤◌, ◌<◌, ◌↔◌, ◌⊎◌, ◌++◌, Option, true, IfOk, IsOk, OnOk, OnErr, string_bytes};
 ghost use Rattle.std.specs.Io.KnownBytes.{Appends};
-ghost use Rattle.repo_prog.specs.Commands.{listening_line, IsEnd};
+ghost use Rattle.repo_prog.specs.Commands.{IsEnd, Listens, ListensAtMost, ListensBy, address_line, listening_line};
 ghost use Rattle.repo_prog.specs.Serving.{IsServed, ServesAtOnce, ServesInTurn, Visit, as_served, ending};
-ghost use Rattle.repo_prog.specs.Tellings.{IsCutShort};
 ghost use Rattle.repo_prog.specs.declared.status.Status.{Status};
 ghost use Rattle.repo_store.specs.AppendOnly.{KeepsObjects, OnlyAppends};
+ghost use Rattle.repo_store.specs.Output.{AppendsPart};
 ghost use Rattle.repo_store.specs.Serving.{Ran};
 
+use crate::addresses::host_alone;
 use crate::consoles::Console;
 use crate::listeners::{Arrivals, Listen};
 use crate::status::{Status, failed, failed_by};
 use repo_files::{HoldFile, open_store};
 use repo_many::{Manner, Served, serve_many};
-use repo_store::{AppendOnly, Kept, ServeError, Shelf, serve_over, write_whole};
-use std::alloc::{AllocGlobal, Global};
+use repo_store::{AppendOnly, Kept, ServeError, Shelf, Unwritten, serve_over, write_whole};
+use std::alloc::{AllocError, AllocGlobal, Global};
 use std::fs::Files;
 use std::io::{Read, Write};
 use std::net::{Net, OpenListener, OpenStream, TcpListener};
@@ -207,9 +208,59 @@ pub struct Serving {
     pub append_only: bool,
 }
 
+/// The lines that a server writes if its address has this host and leaves the port to the system, which chose this one.
+fn left_lines(alloc: Global, host: &str, port: u16) -> Result<String, AllocError>
+    ensures { IfOk result (λ lines. string_bytes lines ≡ listening_line ++ address_line host.now port) }
+{
+    format!(in alloc; "listening\naddress {host}:{port}\n")
+}
+
+/// The lines that a server writes once it listens at an address with this port.
+fn listening_lines(alloc: Global, address: &str, port: u16) -> Result<String, AllocError>
+    ensures { IfOk result (λ lines. ListensBy address.now (string_bytes lines)) }
+{
+    match host_alone(address) {
+        Some(host) => left_lines(alloc, host, port),
+        None => String::from_str(alloc, "listening\n"),
+    }
+}
+
+/// Writes a text, and has it leave at once. On an error some first part of it was written, or none, or all.
+fn write_out<W: Write>(text: &str, output: &mut W) -> Result<(), Unwritten>
+    ensures ok { OnOk result (Appends (W.contents output.old) (W.contents output.new) text.now) }
+    ensures err { OnErr result (AppendsPart (W.contents output.old) (W.contents output.new) text.now ⊎ Appends (W.contents output.old) (W.contents output.new) text.now) }
+{
+    write_whole(output, text.as_bytes())?;
+    match output.flush() {
+        Ok(()) => Ok(()),
+        Err(_) => Err(Unwritten),
+    }
+}
+
+/// Writes what a server writes once it listens.
+fn show_listening<W: Write, F: Write>(
+    alloc: Global,
+    address: &str,
+    port: u16,
+    console: &mut Console<W, F>,
+) -> Status
+    ensures silent { result ≡ Status.Done → console.new.faults ≡ console.old.faults }
+    ensures status { IsEnd result }
+    ensures written { result ≡ Status.Done → Listens address.now (W.contents console.old.output) (W.contents console.new.output) }
+    ensures cut { result ≡ Status.Failed → ListensAtMost address.now (W.contents console.old.output) (W.contents console.new.output) }
+{
+    let Ok(lines) = listening_lines(alloc, address, port) else {
+        return failed(&mut console.faults, &"out of memory");
+    };
+    match write_out(lines.as_str(), &mut console.output) {
+        Ok(()) => Status::Done,
+        Err(error) => failed(&mut console.faults, &error),
+    }
+}
+
 /// `vault serve`: opens the store in a folder, which it holds until it ends, binds the address, writes
 /// `listening` on a line, and serves so many connections, so many at once, each of which ends once it is idle for so
-/// long.
+/// long. Where the address leaves the port to the system, a second line tells the address with the port that it has.
 /// What the folder has is read once and remembered, since nobody else writes there.
 /// A folder that can't be opened, is no store, or is held by another server is told as `shelf failed`, an
 /// address as `not reached`, a line that can't be written as `write failed`, want of memory as such; then nothing is served. What
@@ -225,9 +276,8 @@ where
     R::File: HoldFile,
     ensures silent { result ≡ Status.Done → console.new.faults ≡ console.old.faults }
     ensures status { IsEnd result }
-    ensures written { result ≡ Status.Done → Appends (W.contents console.old.output) (W.contents console.new.output) listening_line }
-    ensures cut { result ≡ Status.Failed → IsCutShort (W.contents console.old.output) (W.contents console.new.output) listening_line
-        ⊎ Appends (W.contents console.old.output) (W.contents console.new.output) listening_line }
+    ensures written { result ≡ Status.Done → Listens address.now (W.contents console.old.output) (W.contents console.new.output) }
+    ensures cut { result ≡ Status.Failed → ListensAtMost address.now (W.contents console.old.output) (W.contents console.new.output) }
 {
     let shelf = match open_store(rt, folder) {
         Ok(shelf) => shelf,
@@ -238,13 +288,15 @@ where
         Err(error) => return failed_by(&mut console.faults, &error, "not reached"),
     };
     shelf.folder.disk.clean();
-    if write_whole(&mut console.output, b"listening\n").is_err() {
-        return failed(&mut console.faults, &"write failed");
+    let port = match listener.local_addr() {
+        Ok(bound) => bound.port(),
+        Err(error) => return failed_by(&mut console.faults, &error, "not reached"),
+    };
+    match show_listening(rt.alloc(), address, port, console) {
+        Status::Done => {}
+        other => return other,
     }
-    if console.output.flush().is_err() {
-        return failed(&mut console.faults, &"write failed");
-    }
-    let mut arrivals = Arrivals::at(&listener, serving.idle);
+    let mut arrivals = Arrivals::at(rt, &listener, serving.idle);
     let bound = Bound {
         rt,
         listener: &listener,

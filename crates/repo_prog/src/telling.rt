@@ -1,15 +1,15 @@
 //! What the commands of clients write, and how they tell why they ended.
 
-ghost use Rattle.std.specs.Prelude.{◌≡◌, ℕ, List, IfOk, string_bytes};
+ghost use Rattle.std.specs.Prelude.{◌≡◌, ℕ, List, IfOk, option_map, string_bytes};
 ghost use Rattle.repo_prog.specs.Commands.{IsEnd};
-ghost use Rattle.repo_prog.specs.Tellings.{lock_word, lock_line, lock_lines, snapshot_line, snapshot_lines, stored_line, complete_line, foreseen_line, foreseen_lines, forgotten_line, forgotten_lines, pruned_line, upgraded_line, clean_line, fault_word, fault_line, fault_lines, removed_line, Shows};
+ghost use Rattle.repo_prog.specs.Tellings.{lock_word, lock_line, lock_lines, snapshot_line, snapshot_lines, stored_line, complete_line, foreseen_line, foreseen_lines, forgotten_line, forgotten_lines, pruned_line, upgraded_line, clean_line, fault_word, fault_line, fault_lines, removed_line, object_line, end_lines, ended_lines, unfinished_lines, unwelcome_line, Shows, TellsWhy, WritesFirst};
 ghost use Rattle.repo_prog.specs.declared.status.Status.{Status};
 
 use crate::consoles::Console;
 use crate::printing::printed;
 use crate::status::{Status, failed};
-use repo_name::{LockRow, Name, Token};
-use repo_session::{CheckFault, DriveError, FaultKind, Outcome, result_text, thing_word};
+use repo_name::{LockRow, Name, Thing, Token};
+use repo_session::{CheckFault, DriveError, End, FaultKind, Outcome, result_text, thing_word};
 use repo_store::write_whole;
 use repo_tree::Snapshot;
 use repo_wire::Say;
@@ -217,25 +217,91 @@ pub fn show_made<O: Write, F: Write>(
     }
 }
 
-/// Tells of a reply that isn't what was asked for.
-pub fn unwelcome<F: Write>(say: &Say, faults: &mut F) -> Status
-    ensures { result ≡ Status.Failed }
+/// The line that names an object.
+fn object_line(alloc: Global, thing: Thing, name: &Name) -> Result<String, AllocError>
+    ensures { IfOk result (λ line. string_bytes line ≡ object_line thing name.now) }
+{
+    let (thing, name) = (thing_word(thing), name.to_hex(alloc)?);
+    format!(in alloc; "{thing} {name}\n")
+}
+
+/// The line that names the object that is missing or can't be read, if a job ended by one; otherwise nothing.
+fn end_lines(alloc: Global, end: End) -> Result<String, AllocError>
+    ensures { IfOk result (λ lines. string_bytes lines ≡ end_lines end) }
+{
+    match end {
+        End::Missing(thing, name) => object_line(alloc, thing, &name),
+        End::BadObject(thing, name) => object_line(alloc, thing, &name),
+        _ => Ok(String::new(alloc)),
+    }
+}
+
+/// The same of what a job came to.
+fn ended_lines(alloc: Global, outcome: Option<&Outcome>) -> Result<String, AllocError>
+    ensures { IfOk result (λ lines. string_bytes lines ≡ ended_lines (option_map (λ o. o.now) outcome.entry)) }
+{
+    match outcome {
+        Some(Outcome::Ended(end)) => end_lines(alloc, *end),
+        _ => Ok(String::new(alloc)),
+    }
+}
+
+/// The lines of a job that didn't do what it was for: how it ended, and the object that it ended by, if there is one.
+fn unfinished_lines(alloc: Global, outcome: Option<&Outcome>) -> Result<String, AllocError>
+    ensures { IfOk result (λ lines. string_bytes lines ≡ unfinished_lines (option_map (λ o. o.now) outcome.entry)) }
+{
+    let (text, object) = (
+        result_text(alloc, outcome, false)?,
+        ended_lines(alloc, outcome)?,
+    );
+    format!(in alloc; "{text}\n{object}")
+}
+
+/// The line of a reply that isn't what was asked for.
+fn unwelcome_line(alloc: Global, say: &Say) -> Result<String, AllocError>
+    ensures { IfOk result (λ line. string_bytes line ≡ unwelcome_line say.now) }
 {
     match say {
         Say::Refused(code) => {
             let number = code.number();
-            failed(faults, &format_args!("refused {number}"))
+            format!(in alloc; "refused {number}\n")
         }
-        _ => failed(faults, &"badreply"),
+        _ => String::from_str(alloc, "badreply\n"),
     }
 }
 
-/// Tells how a job ended that didn't do what it was for.
-pub fn unfinished<F: Write>(alloc: Global, outcome: Option<&Outcome>, faults: &mut F) -> Status
-    ensures { result ≡ Status.Failed }
+/// Writes lines on the fault output. What can't be written is lost.
+fn tell_lines<F: Write>(lines: &str, faults: &mut F)
+    ensures { WritesFirst lines.now (F.contents faults.old) (F.contents faults.new) }
 {
-    match result_text(alloc, outcome, false) {
-        Ok(text) => failed(faults, &text),
-        Err(_) => failed(faults, &DriveError::Memory),
+    let _ = write_whole(faults, lines.as_bytes());
+}
+
+/// Tells why a command failed by lines that were made, or that there was no memory for them.
+fn failed_made<F: Write>(made: Result<String, AllocError>, faults: &mut F) -> Status
+    ensures status { result ≡ Status.Failed }
+    ensures tells { (lines : List ℕ) → IfOk made (λ text. string_bytes text ≡ lines) → TellsWhy lines (F.contents faults.old) (F.contents faults.new) }
+{
+    match made {
+        Ok(lines) => tell_lines(lines.as_str(), faults),
+        Err(_) => tell_lines("out of memory\n", faults),
     }
+    Status::Failed
+}
+
+/// Tells of a reply that isn't what was asked for.
+pub fn unwelcome<F: Write>(alloc: Global, say: &Say, faults: &mut F) -> Status
+    ensures status { result ≡ Status.Failed }
+    ensures tells { TellsWhy (unwelcome_line say.now) (F.contents faults.old) (F.contents faults.new) }
+{
+    failed_made(unwelcome_line(alloc, say), faults)
+}
+
+/// Tells how a job ended that didn't do what it was for. If it ended by an object that is missing or can't be read, a second line
+/// names the object.
+pub fn unfinished<F: Write>(alloc: Global, outcome: Option<&Outcome>, faults: &mut F) -> Status
+    ensures status { result ≡ Status.Failed }
+    ensures tells { TellsWhy (unfinished_lines (option_map (λ o. o.now) outcome.entry)) (F.contents faults.old) (F.contents faults.new) }
+{
+    failed_made(unfinished_lines(alloc, outcome), faults)
 }

@@ -12,6 +12,7 @@ ghost use Rattle.repo_prog.specs.Words.{AreOrdering, IsFlag, IsIdleOf, IsMakingO
 
 use crate::addresses::address_of;
 use crate::errands::{Errand, errand_of, retry_of, with_command, with_errands};
+use crate::folder_words::folder_of;
 use crate::help::{FRAMES, INIT, LOOP, PLAY, SERVE};
 use crate::meanings::{
     APPEND_ONLY, AT_ONCE, BITS, CONNECTIONS, FORMAT, IDLE, LISTENER, MAX, MIN, NEW_STORE, STORE,
@@ -327,7 +328,7 @@ fn init_order(alloc: Global, matches: &ArgMatches) -> Result<Order, WordsError>
     ensures word { IfOk result (λ order. order_word order ≡ codes "init") }
     ensures asked { IfOk result (AreOrdering matches.now) }
 {
-    let folder = word_of(alloc, matches, "DIR")?;
+    let folder = folder_of(alloc, matches, "DIR")?;
     let making = making_of(matches)?;
     Ok(Order::Init { folder, making })
 }
@@ -392,7 +393,7 @@ fn serve_order(alloc: Global, matches: &ArgMatches) -> Result<Order, WordsError>
     ensures word { IfOk result (λ order. order_word order ≡ codes "serve") }
     ensures asked { IfOk result (AreOrdering matches.now) }
 {
-    let folder = word_of(alloc, matches, "DIR")?;
+    let folder = folder_of(alloc, matches, "DIR")?;
     let address = address_of(alloc, matches)?;
     let serving = serving_of(matches)?;
     Ok(Order::Serve {
