@@ -154,8 +154,15 @@ def done_by(outcome):
     """An outcome of a job that did what it was for."""
     word = outcome.text.split(" ")[0]
     if word not in ("stored", "complete", "listed", "forgotten", "pruned", "clean", "faults", "upgraded"):
-        raise Failed(outcome.text)
+        raise Failed(unfinished(outcome))
     return outcome
+
+
+def unfinished(outcome):
+    """How a job ended that didn't do what it was for; and on a line of its own the object that is missing or can't be read, if it ended by one."""
+    if outcome.name is None:
+        return outcome.text
+    return f"{outcome.text}\n{outcome.text.split(' ')[1]} {outcome.name.hex()}"
 
 
 def snapshots(talk):

@@ -168,7 +168,7 @@ def shapes():
     objects = Objects().packed(("content", ABC), ("tree", ROOT))
     objects.index((name_of(b"gone"), [("content", name_of(DE), 0, 2)]))
     objects.snapshot(ROOT)
-    yield "an index of a pack that isn't there, of which nothing is needed", objects
+    yield "an index of a pack that isn't there, of which nothing is needed: the pack is missing", objects
     empty = tree_text([])
     above = tree_text([dir_node("a", name_of(empty)), dir_node("b", name_of(tree_text([dir_node("c", name_of(empty))])))])
     objects = Objects().packed(("tree", empty), ("content", DE), ("tree", above), ("tree", tree_text([dir_node("c", name_of(empty))])))
@@ -238,6 +238,33 @@ def broken(script):
                 script.lay(kind, name, other)
             script.steps(script.start_prune())
             script.report()
+
+
+def lost_packs(script):
+    """Two backups at once store a blob in two packs, and some of these are lost: a prune names the least of them, and changes nothing."""
+    for text, lost in (("the least", [0]), ("the greatest", [1]), ("both", [0, 1])):
+        script.heading("a prune after two backups at once stored a blob in two packs, which are lost: " + text)
+        script.fresh()
+        backups = [script.start_backup(X, "a", 1), script.start_backup(TWO, "b", 2)]
+        for place in backups:
+            script.until(place, "put-pack")
+        for place in backups:
+            script.finish(place)
+        packs = sorted(script.store.objects["pack"].items())
+        assert len(packs) == 2
+        for place in lost:
+            script.lift("pack", packs[place][0])
+        script.steps(script.start_prune())
+        script.report()
+        for place in backups:
+            restored(script, place)
+        script.finish(script.start_check())
+        for place in lost:
+            script.lay("pack", *packs[place])
+        script.finish(script.start_prune())
+        for place in backups:
+            restored(script, place)
+        script.report()
 
 
 def begun(script):
@@ -372,4 +399,4 @@ def by_chance(script):
         script.report()
 
 
-ALL = [over_replies, unreadable, worked, by_hand, broken, interrupted, beside, many, by_chance]
+ALL = [over_replies, unreadable, worked, by_hand, broken, lost_packs, interrupted, beside, many, by_chance]

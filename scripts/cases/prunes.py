@@ -39,6 +39,9 @@ class Prune:
         for name in indexes:
             facts += yield from got("index", name, read_index)
         packs = yield from listed("pack")
+        missing = {pack for _, _, (pack, _, _) in facts} - set(packs)
+        if missing:
+            raise End("missing pack", min(missing))
         self.places = least_places(facts)
         for root, follows in roots:
             yield from self.walk(root, 0, follows)

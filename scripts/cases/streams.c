@@ -7,7 +7,7 @@
  * BROKEN    they fail where they would end
  * SENT      so many bytes are taken by connections, seven at a time, and then writes fail
  * SHOWN     so many by standard output
- * PARTS     so many of the calls are made by which folders and files come to be, and the next one fails
+ * PARTS     so many of the calls are made by which folders and files come to be, and each one behind them fails
  * HEARD     a connection is heard to its end before it is closed, since what was said over one that is closed before may be lost
  *
  * It needs no header, so that any compiler makes it, and makes the calls of Linux on x86-64 by their numbers. */
@@ -95,7 +95,9 @@ static int is_made(void) {
     static long left;
     static int is_read;
     room("PARTS", &left, &is_read);
-    return left == ABSENT || left-- > 0;
+    if (left == 0) return 0;
+    if (left != ABSENT) left--;
+    return 1;
 }
 
 static int is_below(const char *path) {

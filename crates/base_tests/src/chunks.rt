@@ -34,6 +34,19 @@ const LENGTHS: [u64; 41] = [
     96, 215, 98, 227, 95, 256, 173, 64, 244, 101, 201, 80, 107, 106, 244, 106, 74, 239, 93, 18,
 ];
 
+// Zeros, in hexadecimal, and zeros with some bytes behind them.
+const ZEROS_63: &str =
+    "000000000000000000000000000000000000000000000000000000000000000000000000000000000000000000000000000000000000000000000000000000";
+
+const ZEROS_200: &str =
+    "0000000000000000000000000000000000000000000000000000000000000000000000000000000000000000000000000000000000000000000000000000000000000000000000000000000000000000000000000000000000000000000000000000000000000000000000000000000000000000000000000000000000000000000000000000000000000000000000000000000000000000000000000000000000000000000000000000000000000000000000000000000000000000000000000000000000000000";
+
+const CUT_AT_65: &str =
+    "0000000000000000000000000000000000000000000000000000000000000000000000000000000000000000000000000000000000000000000000000000000140";
+
+const CUT_AT_66: &str =
+    "00000000000000000000000000000000000000000000000000000000000000000000000000000000000000000000000000000000000000000000000000000001010101";
+
 /// The highest bytes of the numbers of a linear congruential generator.
 fn stream(alloc: Global, count: usize) -> Result<Vec<u8>, AllocError> {
     let mut bytes = Vec::with_capacity(alloc, count)?;
@@ -54,7 +67,79 @@ fn lengths_of(alloc: Global, params: Params, pieces: &[&[u8]]) -> Vec<u64> {
     lengths
 }
 
+/// The lengths of the chunks of some bytes that come in pieces of so many.
+fn lengths_by(
+    alloc: Global,
+    params: Params,
+    bytes: &[u8],
+    size: usize,
+) -> Result<Vec<u64>, AllocError> {
+    let mut pieces = Vec::new(alloc);
+    for piece in bytes.chunks(size.max(1)) {
+        pieces.push(piece)?;
+    }
+    Ok(lengths_of(alloc, params, pieces.as_slice()))
+}
+
+/// Whether a chunk ends behind these bytes, as the rule of chunks says it.
+fn ends(params: Params, chunk: &[u8]) -> bool {
+    let length = chunk.len() as u64;
+    let Some(window) = chunk.last_chunk::<64>() else {
+        return false;
+    };
+    let is_cut = remainder(window).trailing_zeros() as u64 >= params.bits();
+    length == params.max() || length >= params.min() && is_cut
+}
+
+/// The lengths of the chunks of some bytes, found at each length by itself.
+fn plain_lengths(alloc: Global, params: Params, bytes: &[u8]) -> Result<Vec<u64>, AllocError> {
+    let mut lengths = Vec::new(alloc);
+    let mut begin = 0;
+    for end in 1..=bytes.len() {
+        let chunk = bytes.get(begin..end).unwrap_or(&[]);
+        if ends(params, chunk) || end == bytes.len() {
+            lengths.push(chunk.len() as u64)?;
+            begin = end;
+        }
+    }
+    Ok(lengths)
+}
+
 impl Trial {
+    /// By a rule of these numbers, these bytes in pieces of so many are cut into chunks of these lengths.
+    fn cuts_by(&mut self, rule: (u64, u64, u64), digits: &str, size: usize, wanted: &[u64]) {
+        let bytes = self.bytes(digits);
+        match Params::new(rule.0, rule.1, rule.2) {
+            Ok(params) => match lengths_by(self.alloc, params, bytes.as_slice(), size) {
+                Ok(lengths) => self.count(lengths.as_slice() == wanted),
+                Err(_) => self.count(false),
+            },
+            Err(_) => self.count(false),
+        }
+    }
+
+    /// These bytes in pieces of so many are cut where the rule by itself cuts them.
+    fn cuts_plainly(&mut self, params: Params, bytes: &[u8], size: usize) {
+        let lengths = lengths_by(self.alloc, params, bytes, size);
+        let wanted = plain_lengths(self.alloc, params, bytes);
+        match (lengths, wanted) {
+            (Ok(lengths), Ok(wanted)) => self.count(lengths.as_slice() == wanted.as_slice()),
+            _ => self.count(false),
+        }
+    }
+
+    /// So are many bytes of the generator, whole, byte by byte, and in pieces of one byte less and more than a window.
+    fn cuts_stream(&mut self, params: Params, count: usize) {
+        match stream(self.alloc, count) {
+            Ok(bytes) => {
+                for size in [count, 1, 63, 65] {
+                    self.cuts_plainly(params, bytes.as_slice(), size);
+                }
+            }
+            Err(_) => self.count(false),
+        }
+    }
+
     /// By a rule of these numbers, so many bytes of the generator, in two pieces of which the first ends here, are cut into
     /// chunks of these lengths.
     fn cuts(&mut self, rule: (u64, u64, u64), count: usize, end: usize, wanted: &[u64]) {
@@ -101,6 +186,31 @@ fn streams_are_cut_as_by_other_programs(rt: HostRuntime) {
         trial.cuts((64, 256, 6), 5_000, end, &LENGTHS);
         trial.cuts((128, 300, 6), 1_000, end, &[257, 200, 191, 139, 182, 31]);
         trial.cuts((128, 300, 20), 1_000, end, &[300, 300, 300, 100]);
+    }
+    trial.end(&rt);
+}
+
+// Zeros are cut at the greatest length. The remainder of 63 zeros and 1 is 1, and that of 62 zeros, 1 and 0x40 is 0x140: its
+// lowest six bits are zeros.
+#[test]
+fn short_files_are_cut_as_by_hand(rt: HostRuntime) {
+    let mut trial = Trial::new(rt.alloc());
+    for size in [200, 1, 63, 64, 65] {
+        trial.cuts_by((64, 128, 6), "", size, &[]);
+        trial.cuts_by((64, 128, 6), ZEROS_63, size, &[63]);
+        trial.cuts_by((64, 128, 6), ZEROS_200, size, &[64, 64, 64, 8]);
+        trial.cuts_by((64, 128, 6), CUT_AT_65, size, &[65]);
+        trial.cuts_by((64, 66, 6), CUT_AT_66, size, &[66, 1]);
+    }
+    trial.end(&rt);
+}
+
+#[test]
+fn a_stream_is_cut_as_by_the_rule_itself(rt: HostRuntime) {
+    let mut trial = Trial::new(rt.alloc());
+    match Params::new(64, 256, 6) {
+        Ok(params) => trial.cuts_stream(params, 100_000),
+        Err(_) => trial.count(false),
     }
     trial.end(&rt);
 }

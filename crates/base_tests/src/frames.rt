@@ -4,6 +4,12 @@ use crate::formats::read_word;
 use crate::trials::Trial;
 use repo_wire::{Fault, FrameReader, Reply, Request, WireError, write_reply, write_request};
 
+// A request for a ticket, and a reply with token 1.
+const TICKET: &str = "00000019 01 01010101010101010101010101010101 0000000000000001";
+
+const TOKEN: &str =
+    "00000021 81 01010101010101010101010101010101 0000000000000001 0000000000000001";
+
 /// The word for a message that isn't read.
 fn fault_word(error: WireError) -> &'static str {
     match error {
@@ -72,6 +78,32 @@ impl Trial {
         out.as_slice() == frame
     }
 
+    /// A reader of requests that was fed these bytes tells this fault; a whole frame behind them changes nothing of that.
+    fn keeps_fault(&mut self, digits: &str, wanted: &str) {
+        let (bytes, frame) = (self.bytes(digits), self.bytes(TICKET));
+        let mut reader = self.fed(bytes.as_slice());
+        for _ in 0..3 {
+            let word = match self.next_request(&mut reader) {
+                Ok(_) => "read",
+                Err(error) => fault_word(error),
+            };
+            self.count(word == wanted && reader.feed(frame.as_slice()).is_ok());
+        }
+    }
+
+    /// The same of a reader of replies.
+    fn keeps_fault_of_reply(&mut self, digits: &str, wanted: &str) {
+        let (bytes, frame) = (self.bytes(digits), self.bytes(TOKEN));
+        let mut reader = self.fed(bytes.as_slice());
+        for _ in 0..3 {
+            let word = match self.next_reply(&mut reader) {
+                Ok(_) => "read",
+                Err(error) => fault_word(error),
+            };
+            self.count(word == wanted && reader.feed(frame.as_slice()).is_ok());
+        }
+    }
+
     /// The word for a request's frame.
     pub fn request_word(&mut self, bytes: &[u8]) -> &'static str {
         let mut reader = self.fed(bytes);
@@ -91,4 +123,29 @@ impl Trial {
             Err(error) => fault_word(error),
         }
     }
+}
+
+#[test]
+fn a_fault_stays(rt: HostRuntime) {
+    let mut trial = Trial::new(rt.alloc());
+    trial.keeps_fault("01900001", "length");
+    trial.keeps_fault("00000018", "length");
+    trial.keeps_fault(
+        "00000019 0d 01010101010101010101010101010101 0000000000000001",
+        "tag",
+    );
+    trial.keeps_fault(
+        "00000019 07 01010101010101010101010101010101 0000000000000001",
+        "fields",
+    );
+    trial.keeps_fault(
+        "00000022 04 01010101010101010101010101010101 0000000000000001 0000000000000001 00",
+        "fields",
+    );
+    trial.keeps_fault_of_reply(
+        "0000001a 86 01010101010101010101010101010101 0000000000000001 00",
+        "fields",
+    );
+    trial.keeps_fault_of_reply("01900001", "length");
+    trial.end(&rt);
 }

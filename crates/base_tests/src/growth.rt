@@ -127,3 +127,10 @@ fn refused_growth_of_a_ledger(rt: HostRuntime) {
     trial.locks_and_ledgers();
     trial.end(&rt);
 }
+
+#[test]
+fn refused_growth_of_many_tickets(rt: HostRuntime) {
+    let mut trial = Trial::of_refusals(rt.alloc());
+    trial.many_tickets();
+    trial.end(&rt);
+}
