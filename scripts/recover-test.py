@@ -3,7 +3,7 @@
 
 Usage: scripts/recover-test.py
 
-The page's own example is laid out too: its names have to come out, and each of its lines has to print what the page says.
+Objects that a hostile client may put are laid out, too: each may cost nothing but itself. The page's own example is laid out too: its names have to come out, and each of its lines has to print what the page says.
 examples/recover.sh does the same with a store that vault made.
 """
 import json
@@ -211,6 +211,61 @@ def lies(work):
     trial.recovers(deep, 1, "too deep")
 
 
+def hostile(work):
+    """Objects that no backup writes, as indexes, as trees and as a snapshot: each costs nothing but itself."""
+    own = {"id": name_of(b"abc"), "length": 3, "offset": 0, "type": "data"}
+    outside, text = work / "x", b"outside"
+    outside.write_bytes(text)
+    away = {**own, "id": name_of(text), "length": len(text)}
+    bodies = [b"[" * 200_000, b"{" * 200_000, b"", b"\xff", b"nul", b"1", b"[]", b"{}", b'"packs"', b"1" * 5_000, b"-1e999999"]
+    items = [None, 1, [], "text", {}, {"id": 1}, {"id": "../../../x", "blobs": [away]}, {"id": str(outside), "blobs": [away]}, {"id": "\ud800" * 64}]
+    blobs = [None, {}, {**own, "length": 10 ** 18}, {**own, "length": -1}, {**own, "offset": 10 ** 30}, {**own, "offset": -1},
+             {**own, "length": 3.0}, {**own, "length": [3]}, {**own, "type": []}, {**own, "id": {}}]
+    trial = Trial(work)
+    rest = trial.rest.name
+    for body in bodies + [json.dumps({"packs": packs}).encode() for packs in (None, 1, {"a": 1}, *([item] for item in items))]:
+        trial.store.keep("index", body)
+    for what in blobs:
+        trial.store.keep("index", json.dumps({"packs": [{"blobs": [what], "id": rest}]}).encode())
+    trial.recovers(trial.entries, 0, None)
+    node = {"content": [name_of(text)], "name": "led outside", "size": len(text), "type": "file"}
+    trial.name = trial.store.snapshot(trial.store.blob("tree", text_of({"nodes": [node]})))
+    trial.store.pack()
+    trial.recovers({}, 1, "missing data")
+
+    for body in bodies:
+        trial = Trial(work)
+        trial.name = trial.store.keep("snapshots", body).name
+        trial.recovers({}, 1, None)
+    good = {"content": [], "name": "z", "size": 0, "type": "file"}
+    for tree in (*bodies, b'{"nodes":{}}', b'{"nodes":"abc"}', b'{"nodes":null}'):
+        trial = Trial(work)
+        trial.name = trial.store.snapshot(trial.store.blob("tree", tree))
+        trial.store.pack()
+        trial.recovers({}, 1, None)
+    for node in (None, 1, "text", [], {}, {"name": 1}, {"name": None}, {"name": ["a"]}, {**good, "name": "\ud800"}, {**good, "name": "a", "size": "0"},
+                 {**good, "name": "a", "content": [[]]}, {**good, "name": "a", "content": 5}, {"name": "a", "type": "file"}):
+        trial = Trial(work)
+        trial.name = trial.store.snapshot(trial.store.blob("tree", json.dumps({"nodes": [node, good]}).encode()))
+        trial.store.pack()
+        trial.recovers({"z": b""}, 1, None)
+    trial = Trial(work)
+    trial.name = trial.store.snapshot(trial.store.blob("tree", json.dumps({"nodes": [{"name": "a", "subtree": [], "type": "dir"}, good]}).encode()))
+    trial.store.pack()
+    trial.recovers({"a": {}, "z": b""}, 1, None)
+
+
+def spoiled(work):
+    """Which snapshots are spoiled: a good one beside one that is no JSON, and one whose tree is none."""
+    trial = Trial(work)
+    bad = [trial.store.keep("snapshots", b"[" * 200_000).name, trial.store.snapshot(trial.store.blob("tree", b"[" * 200_000))]
+    trial.store.pack()
+    words = [sys.executable, str(ROOT / "scripts/recover.py"), "--spoiled", str(work / "store")]
+    ran = subprocess.run(words, capture_output=True, text=True)
+    assert (ran.stdout, ran.returncode) == ("".join(name + "\n" for name in sorted(bad)), 1), ran
+    Trial.tried += 1
+
+
 def parts(work):
     """A directory in three trees, by a snapshot of version 2 and by one of version 1; and without its second tree."""
     files = {"a": b"abc", "b": {"below": b"abc"}, "c": b"c"}
@@ -261,6 +316,8 @@ def main():
         work = Path(room)
         damages(work)
         lies(work)
+        hostile(work)
+        spoiled(work)
         parts(work)
         refusals(work)
         lines = page(work)

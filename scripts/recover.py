@@ -17,13 +17,17 @@ wrong, or the folder has no `snapshots`.
 """
 import functools
 import json
+import re
 import struct
 import sys
 from hashlib import sha256
 from pathlib import Path
 
 NAME = "[0-9a-f]" * 64
-FAULTS = (OSError, ValueError, LookupError, TypeError, AttributeError, struct.error)
+# Anybody who may put an object may put any bytes. So whatever goes wrong with one object costs that object alone.
+FAULTS = Exception
+# The greatest blob, and the greatest place of one in a pack.
+BLOB_LIMIT, PLACE_LIMIT = 8_388_608, 25_165_823
 
 
 @functools.cache
@@ -44,12 +48,27 @@ def part(path, offset, length):
         return file.read(length)
 
 
+def checked_name(text):
+    """The text, if it is the name of an object."""
+    if not re.fullmatch("[0-9a-f]{64}", text):
+        raise ValueError("no name of an object")
+    return text
+
+
+def checked_place(pack, offset, length):
+    """The place, if a blob can have it."""
+    if not (0 < length <= BLOB_LIMIT and 0 <= offset <= PLACE_LIMIT - length):
+        raise ValueError("no place of a blob")
+    return pack, offset, length
+
+
 def listed(index):
-    """What an index tells of blobs: type and name, and a place: pack, offset, length."""
+    """What an index lists: of each blob its type and name, and its place: pack, offset, length."""
     for pack in json.loads(checked(index.read_bytes(), index.name))["packs"]:
-        path = index.parents[1] / "data" / pack["id"][:2] / pack["id"]
+        name = checked_name(pack["id"])
+        path = index.parents[1] / "data" / name[:2] / name
         if path.is_file():
-            yield from (((blob["type"], blob["id"]), (path, blob["offset"], blob["length"])) for blob in pack["blobs"])
+            yield from (((blob["type"], blob["id"]), checked_place(path, blob["offset"], blob["length"])) for blob in pack["blobs"])
         else:
             tell(f"missing {path}")
 
@@ -101,6 +120,8 @@ def nodes_of(places, tree, follows):
     """The nodes of a directory, tree by tree where it goes on in further ones."""
     while tree is not None:
         text = json.loads(blob(places, "tree", tree))
+        if not isinstance(text["nodes"], list):
+            raise ValueError("no list of nodes")
         yield from text["nodes"]
         tree = text.get("next") if follows else None
 
@@ -113,6 +134,7 @@ def check_name(name, depth):
 def recovered(places, tree, target, follows, depth=0):
     """Recovers what a directory lists; gives of each entry None, or what is lost."""
     for node in nodes_of(places, tree, follows):
+        path = target
         try:
             path = target / node["name"]
             check_name(node["name"], depth)
