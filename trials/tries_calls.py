@@ -115,7 +115,8 @@ def a_restore_that_is_killed_leaves_whole_files():
 
 @in_store
 def what_a_restore_tells_as_complete_is_on_the_disk(yard):
-    """Each file was synced once it had its name, and each folder after the last name that came into it, that of the target too."""
+    """Each file was synced once it had its name, by the handle that wrote it, and each folder after the last name that came into it, that of the
+    target too."""
     is_traced()
     root, target, log = filled(yard.top / "from", {"a": b"abc", "d/e/b": b"def", "d/c": b"", "f/": b""}), yard.top / "above/to", yard.top / "log"
     with Server(yard.root, connections=2) as server:

@@ -5,7 +5,7 @@ requests and what was restored are what the reference says. What stands there of
 import sys
 from itertools import groupby
 
-from trying import OPTIONS, ROOT, Skipped, new_folder, trial
+from trying import OPTIONS, ROOT, Lacking, new_folder, trial
 
 FOLDER = ROOT / "scripts/cases"
 # Those that take the longest.
@@ -30,7 +30,7 @@ def holds_each(parts):
     try:
         runner = Runner(OPTIONS.program, new_folder())
     except NoCompiler as error:
-        raise Skipped(str(error))
+        raise Lacking(str(error)) from error
     for run in script.runs:
         came = runner.came(run)
         if not run.holds(came):

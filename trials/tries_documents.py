@@ -7,7 +7,7 @@ import subprocess
 import sys
 
 from program import Server, free_port, told
-from trying import OPTIONS, ROOT, WAIT, Skipped, holds, same, trial
+from trying import OPTIONS, ROOT, WAIT, Skipped, holds, needs, same, trial
 from yards import SMALL, Yard, filled, stored
 
 PAGES = sorted(it for it in ROOT.rglob("*.md") if not {"out", ".git"} & set(it.relative_to(ROOT).parts))
@@ -240,9 +240,8 @@ def the_store_that_the_page_of_formats_shows_is_made():
 @trial(is_early=True)
 def the_example_of_a_week_runs():
     """The first command of the page for newcomers."""
+    needs("cc")
     compiler = shutil.which("cc")
-    if compiler is None:
-        raise Skipped("there is no C compiler")
     with Yard() as yard:
         yard.makes("")
         subprocess.run([compiler, "-shared", "-fPIC", "-o", yard.at("moment.so"), ROOT / "examples/moment.c"], check=True, timeout=WAIT)

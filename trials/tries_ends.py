@@ -7,7 +7,7 @@ import shutil
 from connections import Answering, Said, Watched
 from program import DEVICE, TICKET, Server, frame, matches, number, refused, token, told
 from trying import chosen, holds, same, trial
-from yards import SMALL, Yard, entries, filled, in_store, is_clean, large_gets, restores, stored
+from yards import FAILED, SMALL, Yard, entries, filled, in_store, is_clean, large_gets, restores, stored
 
 JOBS = "backup snapshots restore forget prune check".split()
 
@@ -71,15 +71,16 @@ def a_store_whose_ledger_is_lost(yard):
 def a_store_whose_config_is_lost_or_damaged(yard):
     config = yard.at("config").read_text()
     with Site(yard) as site:
-        others = [(config.replace('"version":1', '"version":3'), "version"), ("", "badreply")]
-        others += [(text, "badreply") for text in (config[:-1], config.replace("20", "33", 1))]
         yard.removes("config")
         site.again()
         site.ends("1||refused 5\n", *JOBS)
-        for text, wanted in others:
+        yard.writes("config", config.replace('"version":1', '"version":3'))
+        site.again()
+        site.ends("1||version\n", *JOBS)
+        site.server.kill()
+        for text in ("", config[:-1], config.replace("20", "33", 1)):
             yard.writes("config", text)
-            site.again()
-            site.ends(f"1||{wanted}\n", *JOBS)
+            same(told("serve", yard.root, "127.0.0.1:1"), FAILED, text)
         yard.writes("config", config)
         site.again()
         is_clean(site.server.address)
@@ -91,14 +92,14 @@ def a_snapshot_that_does_not_read(yard):
         path = site.only("snapshots")
         good = path.read_bytes()
         path.write_bytes(good + b" ")
-        site.ends("1||bad snapshot\n", "snapshots", "restore", "forget", "prune")
+        site.ends(f"1||bad snapshot\nsnapshot {site.name}\n", "snapshots", "restore", "forget", "prune")
         site.ends(f"3|fault snapshot {site.name} name\n|", "check")
         same(told("forget", site.server.address, site.name), f"0|forgotten {site.name}\n|")
         for text, fault in ((b"{}", "unreadable"), (b"no text \xff", "unreadable")):
             yard.at(f"snapshots/{name_of(text)}").write_bytes(text)
             site.again()
             site.ends(f"3|fault snapshot {name_of(text)} {fault}\n|", "check")
-            site.ends("1||bad snapshot\n", "snapshots", "prune")
+            site.ends(f"1||bad snapshot\nsnapshot {name_of(text)}\n", "snapshots", "prune")
             yard.removes(f"snapshots/{name_of(text)}")
         newer = good.replace(b'"version":1', b'"version":3')
         yard.at(f"snapshots/{name_of(newer)}").write_bytes(newer)
@@ -113,13 +114,13 @@ def an_index_that_does_not_read(yard):
         path = site.only("index")
         good = path.read_bytes()
         path.write_bytes(good + b" ")
-        site.ends("1||bad index\n", "backup", "restore", "prune")
+        site.ends(f"1||bad index\nindex {path.name}\n", "backup", "restore", "prune")
         got = told(*site.words("check"))
         holds(got.startswith(f"3|fault index {path.name} name\n") and " unindexed\n" in got, got)
         path.unlink()
         site.again()
-        site.ends("1||missing tree\n", "restore", "prune")
-        matches(told(*site.words("check")), r"3\|fault tree [0-9a-f]{64} unindexed\n\|")
+        tree = matches(told(*site.words("check")), r"3\|fault tree ([0-9a-f]{64}) unindexed\n\|")[0]
+        site.ends(f"1||missing tree\ntree {tree}\n", "restore", "prune")
         matches(told(*site.words("backup")), r"0\|stored [0-9a-f]{64} 4 \d+\n\|")
         same(is_clean(site.server.address)[:3], ("2", "1", "1"))
         restores(site.server.address, site.name, yard.top / "to", entries(site.root))
@@ -131,22 +132,60 @@ def a_pack_that_is_lost_or_damaged(yard):
     with Site(yard) as site:
         path, index = site.only("data"), site.only("index").name
         good = path.read_bytes()
-        tree = int(json.loads(site.only("index").read_bytes())["packs"][0]["blobs"][-1]["offset"])
+        blobs = json.loads(site.only("index").read_bytes())["packs"][0]["blobs"]
+        first, last, tree = blobs[0]["id"], blobs[-1]["id"], int(blobs[-1]["offset"])
         turned = good[:1] + bytes([good[1] ^ 1]) + good[2:]
-        for data, ends in ((turned, "bad content"), (good[:tree] + b"X" + good[tree + 1:], "bad tree"), (good[:10], "refused 8")):
+        cut = good[:tree] + b"X" + good[tree + 1:]
+        for data, ends in ((turned, f"bad content\ncontent {first}"), (cut, f"bad tree\ntree {last}"), (good[:10], "refused 8")):
             path.write_bytes(data)
             site.ends(f"1||{ends}\n", "restore")
             got = told(*site.words("check"))
             holds(got.startswith(f"3|fault pack {path.name} name\nfault index {index} place\n"), got)
         path.unlink()
         site.again()
-        site.ends("1||missing pack\n", "restore")
+        site.ends(f"1||missing pack\npack {path.name}\n", "restore")
         got = told(*site.words("check"))
         holds(got.startswith(f"3|fault index {index} place\n") and " missing\n" in got, got)
         path.write_bytes(good)
         site.again()
         is_clean(site.server.address)
         restores(site.server.address, site.name, yard.top / "to", entries(site.root))
+
+
+OBJECTS = "data index snapshots".split()
+
+
+def brought_from_another_store(yard, files):
+    """A folder with these files is backed up at another store, whose objects come into this one: the snapshot's name, and what it is of."""
+    with Yard(is_store=True) as other:
+        root = filled(other.top / "from", files)
+        with Server(other.root, connections=9) as server:
+            name = stored(server.address, root)
+        for folder in OBJECTS:
+            shutil.copytree(other.at(folder), yard.at(folder), dirs_exist_ok=True)
+        return name, entries(root)
+
+
+@in_store
+def a_lost_pack_of_two_that_have_a_blob(yard):
+    """Whichever of the two is lost, a prune ends with `missing pack` and changes nothing. Once the pack is back, all is whole, and the prune is done."""
+    with Site(yard) as site:
+        name, files = brought_from_another_store(yard, {"x": b"abc", "z": b"ghi"})
+        packs = sorted(it for it in yard.at("data").rglob("*") if it.is_file())
+        same(len(packs), 2, "packs")
+        for path in packs:
+            good = path.read_bytes()
+            path.unlink()
+            site.again()
+            before = [entries(yard.at(folder)) for folder in OBJECTS]
+            site.ends(f"1||missing pack\npack {path.name}\n", "prune")
+            same([entries(yard.at(folder)) for folder in OBJECTS], before, "objects")
+            path.write_bytes(good)
+        site.again()
+        matches(told("prune", site.server.address), r"0\|pruned \d+ \d+\n\|")
+        same(is_clean(site.server.address)[0], "2", "snapshots")
+        restores(site.server.address, site.name, yard.top / "to", entries(site.root))
+        restores(site.server.address, name, yard.top / "to", files)
 
 
 @in_store
@@ -161,7 +200,7 @@ def content_that_no_index_names(yard):
         path.unlink()
         yard.at(f"index/{name_of(text)}").write_bytes(text)
         site.again()
-        site.ends("1||missing content\n", "restore", "prune")
+        site.ends(f"1||missing content\ncontent {gone['id']}\n", "restore", "prune")
         for name, data in entries(yard.top / "to").items() if (yard.top / "to").exists() else ():
             same(data, entries(site.root)[name])
         same(told(*site.words("check")), f"3|fault index {name_of(text)} place\nfault content {gone['id']} unindexed\n|")

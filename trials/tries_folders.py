@@ -200,10 +200,11 @@ def a_backup_holds_no_folder_in_memory():
 
 
 @trial
-def a_file_that_grows_while_it_is_read_is_read_to_its_end():
-    """It grows before the first pack is put, when most of it wasn't read yet."""
+def a_file_that_grows_is_read_to_the_length_that_it_had():
+    """It grows before the first pack is put, when most of it wasn't read yet. What comes behind the length that it had when it was opened is left."""
     with Yard(*SMALL, is_store=True) as own, Server(own.root, connections=9) as server:
-        root, more = filled(own.top / "from", {"a": b"abc", "f": random.Random(5).randbytes(400_000)}), b"more" * 50_000
+        first, more = random.Random(5).randbytes(400_000), b"more" * 50_000
+        root = filled(own.top / "from", {"a": b"abc", "f": first})
 
         def grows():
             with open(root / "f", "ab") as file:
@@ -211,7 +212,7 @@ def a_file_that_grows_while_it_is_read_is_read_to_its_end():
         with Watched(server.port, at_first(PUT, grows)) as line:
             name = stored(line.address, root)
         holds((root / "f").stat().st_size == 600_000, "it didn't grow")
-        restores(server.address, name, own.top / "to", entries(root))
+        restores(server.address, name, own.top / "to", {"a": b"abc", "f": first})
 
 
 @trial(is_early=True)
@@ -242,7 +243,7 @@ def a_directory_whose_text_is_too_large_is_refused():
 @in_store
 def what_cannot_be_read_is_told_and_nothing_is_sent(yard):
     (yard.top / "x").write_text("abc")
-    for word in (yard.top / "away", yard.top / "x", ""):
+    for word in (yard.top / "away", yard.top / "x"):
         with Server(yard.root) as server:
             same(told("backup", server.address, "h", word), f"1||unreadable {word}\n")
             same(server.end(), "0||")

@@ -1,10 +1,11 @@
 """Jobs over connections that end, and that go on over the next ones (`--retry`)."""
 import re
 import socket
+import subprocess
 
 from connections import ALL, Cutter, Said
 from program import Closed, Server, told
-from trying import awaits, chosen, holds, same, trial
+from trying import OPTIONS, Skipped, awaits, chosen, holds, same, trial
 from yards import SMALL, Yard, entries, filled
 
 # What a job that is told as done says first.
@@ -98,6 +99,38 @@ def each_sort_of_end_is_tried_again():
         same(server.taken, count, f"connections with --retry {retry}")
 
 
+class Full:
+    """An address whose listener takes no more connections: who connects there waits."""
+
+    def __enter__(self):
+        self.sockets = [socket.socket()]
+        self.sockets[0].bind(("127.0.0.1", 0))
+        self.sockets[0].listen(0)
+        address = self.sockets[0].getsockname()
+        for _ in range(20):
+            self.sockets.append(socket.socket())
+            self.sockets[-1].settimeout(1)
+            try:
+                self.sockets[-1].connect(address)
+            except TimeoutError:
+                return f"127.0.0.1:{address[1]}"
+        self.__exit__()
+        raise Skipped("a listener of this system takes any number of connections")
+
+    def __exit__(self, *_):
+        for it in self.sockets:
+            it.close()
+
+
+@trial
+def connecting_takes_no_longer_than_idle():
+    """The system itself gives up after two minutes, for which nobody waits here."""
+    with Full() as address:
+        for words in (["locks", address, "--idle", 1], ["snapshots", address, "--idle", 1, "--retry", 1]):
+            run = subprocess.run([OPTIONS.program, *map(str, words)], capture_output=True, stdin=subprocess.DEVNULL, timeout=90)
+            same((run.returncode, run.stdout, run.stderr), (1, b"", b"not reached\n"), words)
+
+
 @trial
 def an_address_is_reached_while_somebody_listens():
     with Yard() as yard, Closed() as address:
@@ -112,7 +145,7 @@ def an_address_is_reached_while_somebody_listens():
 def a_job_with_its_own_end_is_not_tried_again():
     """Nothing is asked again where the job itself came to an end, or where its words are wrong."""
     with Yard(is_store=True) as yard, Server(yard.root, connections=9) as server, Cutter(server.port, [ALL] * 9) as line:
-        same(told("restore", line.address, "0" * 64, yard.top / "to", "--retry", 5), "1||missing snapshot\n")
+        same(told("restore", line.address, "0" * 64, yard.top / "to", "--retry", 5), f"1||missing snapshot\nsnapshot {'0' * 64}\n")
         same(told("backup", line.address, "h", yard.top / "away", "--retry", 5), f"1||unreadable {yard.top}/away\n")
         same(told("forget", line.address, "--retry", 5), "1||no policy\n")
         awaits(lambda: line.taken >= 3, "three connections")

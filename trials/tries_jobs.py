@@ -121,7 +121,7 @@ def forgetting_by_name(yard):
         gone = sorted(names[:3])
         same(rows_of(told("forget", server.address, *reversed(gone), "0" * 64, gone[0])), [f"forgotten {name}" for name in gone])
         same(told("forget", server.address, gone[0]), "0||")
-        same(told("restore", server.address, gone[0], yard.top / "to"), "1||missing snapshot\n")
+        same(told("restore", server.address, gone[0], yard.top / "to"), f"1||missing snapshot\nsnapshot {gone[0]}\n")
         restores(server.address, names[3], yard.top / "to", {"x": b"3"})
 
 

@@ -86,7 +86,7 @@ def lost_disks_come_back():
         with served(yard.root) as server:
             same(told("unlock", server.address, "--remove-all"), "0||")
             same(sorted(row.split()[0] for row in told("snapshots", server.address)[2:-1].splitlines()), sorted(first.values()))
-            same(told("restore", server.address, late, yard.top / "to"), "1||missing snapshot\n")
+            same(told("restore", server.address, late, yard.top / "to"), f"1||missing snapshot\nsnapshot {late}\n")
             next_second()
             again, count = backed_up(server, "laptop", homes["laptop"])
             holds(count > 0, "what was stored since the copy is sent again")
@@ -97,7 +97,7 @@ def lost_disks_come_back():
             restores(server.address, first["laptop"], yard.top / "first", before["laptop"])
             same([got[:2] for got in looked_after("jibrekt-check.service", server)], ["0|", "0|"])
             same(is_clean(server.address)[0], "4")
-            same([got[:2] for got in looked_after("jibrekt-prune.service", server)], ["0|", "0|", "0|"])
+            same([got[:2] for got in looked_after("jibrekt-prune.service", server)], ["0|", "0|", "0|", "0|"])
             for host, home in homes.items():
                 comes_back(server, host, home)
 
@@ -113,7 +113,7 @@ def a_store_that_is_lost_without_a_copy_is_made_anew():
         same(told("serve", yard.root, "127.0.0.1:1"), "1||shelf failed\n")
         same(told("init", yard.root)[:10], "0|created ")
         with served(yard.root) as server:
-            same(told("restore", server.address, lost, yard.top / "to"), "1||missing snapshot\n")
+            same(told("restore", server.address, lost, yard.top / "to"), f"1||missing snapshot\nsnapshot {lost}\n")
             for host, home in homes.items():
                 holds(backed_up(server, host, home)[1] > 0, host)
                 comes_back(server, host, home)

@@ -51,8 +51,8 @@ def files_of_others_beside_a_new_store_stay(yard):
 
 @in_folder
 def a_folder_that_is_made_is_its_owners_alone(yard):
-    """The store's folder, whatever the mask is; folders above it are as the mask says, and one that is there keeps its mode."""
-    for mask, above in ((0o000, 0o777), (0o022, 0o755), (0o077, 0o700)):
+    """The store's folder, whatever the mask is; folders above it can be written by their owner alone, and one that is there keeps its mode."""
+    for mask, above in ((0o000, 0o755), (0o022, 0o755), (0o077, 0o700)):
         store = yard.at(f"{mask}/of/store")
         run = subprocess.run([OPTIONS.program, "init", store], umask=mask, capture_output=True, timeout=WAIT)
         same(run.returncode, 0, run)

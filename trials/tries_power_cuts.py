@@ -5,6 +5,7 @@ import subprocess
 from trying import OPTIONS, ROOT, Skipped, holds, needs, trial
 from yards import Yard
 
+from cuts.calls import may_trace
 from cuts.judging import judged
 from cuts.lives import BY_CHANCE, PLACED
 from cuts.machine import Machine
@@ -16,10 +17,8 @@ SEEDS = {"undisturbed": (1, 3), "kills": (1, 60), "failures": (1, 60)}
 def is_traced():
     """Whether processes may be traced here."""
     needs("strace")
-    with Yard() as yard:
-        run = subprocess.run(["strace", "-f", "--seccomp-bpf", "-e", "trace=openat", "-o", yard.top / "log", "true"], capture_output=True)
-        if run.returncode != 0:
-            raise Skipped("strace may not trace here")
+    if not may_trace():
+        raise Skipped("strace may not trace here")
 
 
 def lived(life, seed):

@@ -30,8 +30,7 @@ def targets_of_restores(yard):
                 same(told("restore", line.address, name, yard.top / target), f"1||{text}\n", target)
         same(line.count, 0, "requests")
         same(entries(root), {"x": b"abc"})
-        for target in ("", "/proc/target"):
-            same(told("restore", server.address, name, target), "1||stopped\n", target)
+        same(told("restore", server.address, name, "/proc/target"), "1||stopped\n")
         same(told("locks", server.address), "0||")
 
 
@@ -43,7 +42,7 @@ def a_target_is_made_once_something_is_restored(yard):
     with Server(yard.root, connections=9) as server:
         name = stored(server.address, root)
         for folder in (void, target):
-            same(told("restore", server.address, "0" * 64, folder), "1||missing snapshot\n", folder)
+            same(told("restore", server.address, "0" * 64, folder), f"1||missing snapshot\nsnapshot {'0' * 64}\n", folder)
         with Watched(server.port, lambda at, _: at < 3) as line:
             same(told("restore", line.address, name, target), "1||read failed\n")
         same(sorted(os.listdir(yard.top)), ["from", "root", "void"])
@@ -176,6 +175,11 @@ def file_node(name, size=3, content=b"abc"):
     return {"content": [name_of(content).hex()], "name": name, "size": size, "type": "file"}
 
 
+def bad_tree(tree):
+    """What a command prints of a tree that can't be read."""
+    return f"1||bad tree\ntree {name_of(text_of(tree)).hex()}\n"
+
+
 def gets(yard, tree, content=b"abc"):
     """What a restore tells over such a server, and what it leaves."""
     answers, name = replies_of(text_of(tree), content)
@@ -190,9 +194,9 @@ def names_that_lead_elsewhere_are_not_written():
     with Yard() as yard:
         same(gets(yard, {"nodes": [file_node("x")]}), ("0|complete 1\n|", {"x": b"abc"}))
         for name in ("..", ".", "", "a/b", "/a", "../a", "a\0b", "a" * 256):
-            same(gets(yard, {"nodes": [file_node(name)]}), ("1||bad tree\n", {}), repr(name))
             node = {"name": name, "subtree": name_of(b"").hex(), "type": "dir"}
-            same(gets(yard, {"nodes": [node]}), ("1||bad tree\n", {}), repr(name))
+            for tree in ({"nodes": [file_node(name)]}, {"nodes": [node]}):
+                same(gets(yard, tree), (bad_tree(tree), {}), repr(name))
         same(os.listdir(yard.top), [])
 
 
@@ -201,25 +205,26 @@ def bytes_of_another_name_are_not_given_out():
     """Where a blob's bytes, an object's, or a file's size are others than was said, the restore ends, and no such file is there."""
     with Yard() as yard:
         tree = {"nodes": [file_node("x")]}
-        for content, told_so in ((b"abd", "missing content"), (b"abcd", "missing content")):
-            same(gets(yard, tree, content), (f"1||{told_so}\n", {}))
-        same(gets(yard, {"nodes": [file_node("x", size=4)]})[0], "1||bad tree\n")
-        same(gets(yard, {"nodes": [file_node("y"), file_node("x")]}), ("1||bad tree\n", {}))
+        for content in (b"abd", b"abcd"):
+            same(gets(yard, tree, content), (f"1||missing content\ncontent {name_of(b'abc').hex()}\n", {}))
+        longer, falling = {"nodes": [file_node("x", size=4)]}, {"nodes": [file_node("y"), file_node("x")]}
+        same(gets(yard, longer)[0], bad_tree(longer))
+        same(gets(yard, falling), (bad_tree(falling), {}))
         answers, name = replies_of(text_of(tree))
-        for tag, says in ((GET, "bad snapshot"), (RANGE, "bad tree")):
+        for tag, says in ((GET, f"1||bad snapshot\nsnapshot {name}\n"), (RANGE, bad_tree(tree))):
             def turned(number, request, tag=tag):
                 reply = answers(number, request)
                 return reply[:-1] + bytes([reply[-1] ^ 1]) if request[4] == tag else reply
             shutil.rmtree(yard.top / "to", ignore_errors=True)
             with Answering(turned) as server:
-                same(told("restore", server.address, name, yard.top / "to"), f"1||{says}\n")
+                same(told("restore", server.address, name, yard.top / "to"), says)
             same(entries(yard.top / "to"), {})
 
 
 @in_store
 def a_snapshot_that_is_none(yard):
     with Server(yard.root, connections=2) as server:
-        same(told("restore", server.address, "0" * 64, yard.top / "to"), "1||missing snapshot\n")
+        same(told("restore", server.address, "0" * 64, yard.top / "to"), f"1||missing snapshot\nsnapshot {'0' * 64}\n")
         same(told("locks", server.address), "0||")
     for name in ("", "0" * 63, "0" * 65, "A" * 64, "g" * 64):
         got = told("restore", "127.0.0.1:1", name, yard.top / "to")

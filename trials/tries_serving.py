@@ -1,10 +1,13 @@
 """`vault serve`: folders that are served and those that aren't, who holds one, and connections that make no sense or say nothing."""
 import fcntl
 import os
+import resource
 import socket
+import subprocess
+import time
 
-from program import DEVICE, TICKET, Server, frame, number, refused, rest_of, token, told
-from trying import same
+from program import DEVICE, TICKET, Server, frame, matches, number, read_frame, refused, rest_of, token, told
+from trying import OPTIONS, WAIT, same
 from yards import FAILED, in_folder, in_store, large_gets
 
 DELETION = frame(10, number(9), b"\0", bytes([7] * 32)).hex()
@@ -51,6 +54,36 @@ def addresses_that_cannot_be_listened_to(yard):
     same(told("serve", yard.root, NOT_OURS), "1||not reached\n")
     with socket.create_server(("127.0.0.1", 0)) as taken:
         same(told("serve", yard.root, f"127.0.0.1:{taken.getsockname()[1]}"), "1||not reached\n")
+
+
+@in_store
+def a_port_that_the_system_chooses(yard):
+    """The server writes the address with this port on a second line, before anybody connects."""
+    for port in ("0", "00", "+0"):
+        serve = [OPTIONS.program, "serve", yard.root, f"127.0.0.1:{port}"]
+        with subprocess.Popen(serve, stdin=subprocess.DEVNULL, stdout=subprocess.PIPE, stderr=subprocess.PIPE, text=True) as server:
+            try:
+                same(server.stdout.readline(), "listening\n")
+                address = matches(server.stdout.readline(), r"address (127\.0\.0\.1:[1-9]\d*)\n")[0]
+                same(told("locks", address), "0||")
+                same(server.communicate(timeout=WAIT), ("", ""))
+            finally:
+                server.kill()
+            same(server.returncode, 0)
+
+
+@in_store
+def a_server_without_descriptors_waits_for_them(yard):
+    """What the next connection needs is taken away while one is served, and given back: no connection is lost."""
+    with Server(yard.root, connections=2) as server:
+        limits = resource.prlimit(server.process.pid, resource.RLIMIT_NOFILE)
+        with server.connected(bytes.fromhex(TICKET)) as client:
+            same(read_frame(client).hex(), token(1))
+            resource.prlimit(server.process.pid, resource.RLIMIT_NOFILE, (3, limits[1]))
+        time.sleep(0.5)
+        resource.prlimit(server.process.pid, resource.RLIMIT_NOFILE, limits)
+        same(server.asked(TICKET), token(2))
+        same(server.end(), "0||")
 
 
 @in_store
@@ -167,9 +200,25 @@ def a_folder_that_is_no_store_is_not_served(yard):
 
 
 @in_folder
+def a_config_of_another_program_makes_no_store(yard):
+    """As in `.git` or `.ssh`: nothing is made in the folder, and nothing is removed."""
+    fills_tmp(yard)
+    good = '{"chunk_bits":6,"chunk_max":128,"chunk_min":64,"id":"' + "0" * 32 + '","pack_target":1024,"version":1}'
+    for text in ("[core]\n\tbare = false\n", "Host *\n", "", "{}", "mine", good[:-1], good.replace("1024", "1"), good + " " * 70_000):
+        yard.writes("config", text)
+        same(told("serve", yard.root, NOT_OURS), FAILED, text[:20])
+        has_tmp(yard)
+        yard.has("config", text)
+        yard.has("tmp/config.vault-part", "half")
+        yard.holds("", 2)
+
+
+@in_folder
 def a_config_or_a_ledger_makes_a_folder_a_store(yard):
-    yard.writes("config", "mine")
-    yard.serves("", "0||", "")
+    good = '{"chunk_bits":6,"chunk_max":128,"chunk_min":64,"id":"' + "0" * 32 + '","pack_target":1024,"version":1}'
+    for text in (good, good.replace('"version":1', '"version":3')):
+        yard.writes("config", text)
+        yard.serves("", "0||", "")
     yard.removes("config")
     same(told("serve", yard.root, NOWHERE), FAILED)
     yard.writes("ledger", "mine")

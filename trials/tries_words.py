@@ -43,7 +43,8 @@ def words_out_of_bounds():
     """`bad argument`, or a text of the parser's own where a number is none; before anything is opened."""
     for words in (["backup", ANY, "", "x"], ["backup", ANY, "h" * 256, "x"], ["backup", ANY, "ä" * 128, "x"], ["restore", ANY, "0" * 63, "x"],
                   ["restore", ANY, "A" * 64, "x"], ["restore", ANY, "", "x"], ["forget", ANY, "0"], ["forget", ANY, NAME, NAME[:-1] + "G"],
-                  ["forget", ANY, "--keep-last", "1", "--host", ""], ["forget", ANY, "--keep-last", "1", "--dry-run", "--host", "h" * 256]):
+                  ["forget", ANY, "--keep-last", "1", "--host", ""], ["forget", ANY, "--keep-last", "1", "--dry-run", "--host", "h" * 256],
+                  ["init", ""], ["serve", "", ANY], ["backup", ANY, "h", ""], ["restore", ANY, NAME, ""]):
         same(told(*words), "2||bad argument\n", words)
     for words in (["refresh", ANY, "one"], ["refresh", ANY, "-1"], ["refresh", ANY, "18446744073709551616"], ["forget", ANY, "--keep-last", "4294967296"],
                   ["forget", ANY, "--keep-daily", "x"], ["backup", ANY, "h", "x", "--retry", "no"], ["serve", "x", ANY, "--connections", "0"]):

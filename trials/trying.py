@@ -31,6 +31,8 @@ class Options:
     program: str = str(ROOT / "crates/vault/out/vault")
     is_long: bool = False
     with_times: bool = False
+    # Whether a trial that lacks a program has failed.
+    is_whole: bool = False
     room: str = ""
 
 
@@ -51,6 +53,10 @@ class Trial:
 
 class Skipped(Exception):
     """What was to be tried can't be, on this machine, for this reason."""
+
+
+class Lacking(Skipped):
+    """The same for want of a program, which can be installed."""
 
 
 def trial(function=None, *, is_long=False, is_early=False):
@@ -91,7 +97,7 @@ def needs(*programs):
     """Skips the trial where one of these programs isn't there."""
     for program in programs:
         if shutil.which(program) is None:
-            raise Skipped(f"there is no {program}")
+            raise Lacking(f"there is no {program}")
 
 
 def new_folder():
@@ -110,6 +116,8 @@ def outcome(number):
     try:
         TRIALS[number].run()
         came, why = "ok", ""
+    except Lacking as reason:
+        came, why = "FAILED" if OPTIONS.is_whole else "skipped", str(reason)
     except Skipped as reason:
         came, why = "skipped", str(reason)
     except Exception as error:  # noqa: BLE001
@@ -147,18 +155,21 @@ def told_of(name, came, why, seconds):
 
 def runs(numbers, jobs):
     """Runs these trials, prints their lines, and tells how many passed, were skipped, and failed."""
-    count = {"ok": 0, "skipped": 0, "FAILED": 0}
+    count, skipped = {"ok": 0, "skipped": 0, "FAILED": 0}, []
     with ProcessPoolExecutor(jobs, mp_context=get_context("fork"), initializer=ends_on_signal) as pool:
         begun = {pool.submit(outcome, number): number for number in sorted(numbers, key=lambda number: not TRIALS[number].is_early)}
         try:
             for it in as_completed(begun):
                 count[it.result()[0]] += 1
+                skipped += [TRIALS[begun[it]].name] if it.result()[0] == "skipped" else []
                 print(told_of(TRIALS[begun[it]].name, *it.result()), flush=True)
         except BaseException:
             pool.shutdown(wait=False, cancel_futures=True)
             for child in active_children():
                 child.terminate()
             raise
+    if skipped:
+        print(f"{len(skipped)} skipped: {', '.join(sorted(skipped))}")
     return count
 
 
@@ -170,7 +181,5 @@ def runs_in_room(numbers, jobs):
         count = runs(numbers, jobs)
     finally:
         clears(OPTIONS.room)
-    if count["skipped"]:
-        print(f"{count['skipped']} skipped")
     print(f"{count['ok']} passed, {count['FAILED']} failed")
     return count["FAILED"] == 0

@@ -5,6 +5,9 @@ the number of a connection and its bytes; `told` with what went to standard outp
 """
 import os
 import re
+import shutil
+
+from trying import is_possible
 
 TRACED = ("open,openat,creat,read,readv,recvfrom,recvmsg,write,writev,pwrite64,sendto,sendmsg,rename,renameat,renameat2,link,linkat,unlink,"
           "unlinkat,mkdir,mkdirat,rmdir,fsync,fdatasync,close,ftruncate,fallocate,accept,accept4,sync,syncfs,fcntl,dup,dup2,dup3")
@@ -23,6 +26,11 @@ def strace(log, inject=None):
     words = ["strace", "-f", "-qq", "-xx", "-s", "30000000", "-e", f"trace={TRACED}", "-o", str(log)]
     # The filter in the kernel is faster, but then no signal is sent.
     return words + (["-e", f"inject={inject}"] if inject else ["--seccomp-bpf"])
+
+
+def may_trace():
+    """Whether strace is here, and may trace a process with its filter in the kernel."""
+    return shutil.which("strace") is not None and is_possible(["strace", "-f", "--seccomp-bpf", "-e", "trace=openat", "-o", os.devnull, "true"])
 
 
 def words_of(text):
@@ -94,6 +102,8 @@ class Reading:
             sort = self.open.pop(int(words[0]), None)
             return ("close", int(words[0])) if sort and sort[0] == "file" else None
         elif name in ("rename", "renameat", "renameat2"):
+            # What is open keeps its file, which has another name now.
+            self.open |= {file: ("file", paths[1]) for file, sort in self.open.items() if sort == ("file", paths[0])}
             return ("rename", *paths) if all(paths) else None
         elif name in ("unlink", "unlinkat", "rmdir", "mkdir", "mkdirat"):
             return ("mkdir" if name.startswith("mkdir") else "unlink", paths[0]) if paths[0] else None

@@ -1,0 +1,149 @@
+#!/usr/bin/env python3
+"""Plays random rounds over real processes, until time is up or something is wrong.
+
+Machines whose folders change back up, restore, list, forget, prune and check side by side at one store. Meanwhile clients and servers are
+killed, connections are cut, disks fill up, and power cuts are simulated.
+
+Usage: trials/campaign.py [--seed N] [--minutes M] [--rounds N] [--at-once N] [--format 1|2] [--plan FILE] [--keep FOLDER] [VAULT]
+or: trials/campaign.py --scripts [--seed N] [--minutes M] [--rounds N] [VAULT]
+
+After each round the store has to be sound. A check is clean. Each snapshot that was reported stored, and that no forget was asked to delete, is
+there, and those that are restored are the same byte for byte. After a prune nothing that was forgotten takes room. No more locks are left than
+clients were cut off. No token was given twice. The server holds no more descriptors and memory than before.
+
+A campaign prints its seed; without --seed it draws one. The machine decides on time and order, so the same seed may find a fault in one run and
+miss it in the next. If a plan fails, the campaign looks for the smallest plan that still fails, and stores it; --plan plays it again.
+
+With --scripts it plays random scripts with `vault play`, and compares what is printed with the reference in scripts/cases. For some scripts it
+refuses a request for memory. A script counts as a round.
+Exit status: 0 nothing was found; 1 something was; 2 the words are wrong.
+"""
+import argparse
+import copy
+import os
+import random
+import shutil
+import sys
+import time
+from collections import Counter
+from pathlib import Path
+
+sys.dont_write_bytecode = True
+
+from rounds.plans import drawn_round, new_plan, read_plan, smaller
+from rounds.playing import Campaign
+from rounds.scripts import plays_scripts
+from trying import OPTIONS, clears, ends_on_signal, makes_room, new_folder
+
+# How often a smaller plan is played before it counts as one that doesn't fail.
+REPEATS = 3
+
+
+def faults_of(plan, counts, rounds):
+    """Plays the rounds that come; what is wrong behind the last of them, and the rounds that were played."""
+    campaign, played = Campaign(new_folder(), plan), []
+    try:
+        for it in rounds:
+            played.append(it)
+            try:
+                faults = list(campaign.plays(copy.deepcopy(it)))
+            except Exception as error:  # noqa: BLE001
+                faults = [f"round {it.number}: {type(error).__name__}: {error}"]
+            if faults:
+                return faults, played
+        return [], played
+    finally:
+        counts.update(campaign.counts)
+        campaign.ends()
+        shutil.rmtree(campaign.top, ignore_errors=True)
+
+
+def drawn(plan, most, until):
+    """Rounds of a plan, until there were so many, or time is up."""
+    number = 0
+    while number != most and time.monotonic() < until:
+        yield drawn_round(plan, number)
+        number += 1
+
+
+def fails(plan):
+    """Whether a plan fails in one of several runs."""
+    return any(faults_of(plan, Counter(), plan.rounds)[0] for _ in range(REPEATS))
+
+
+def shrunk(plan, until):
+    """The smallest plan that still fails, as far as it is found in time."""
+    candidates = iter(smaller(plan))
+    while time.monotonic() < until and (candidate := next(candidates, None)):
+        if fails(candidate):
+            plan, candidates = candidate, iter(smaller(candidate))
+    return plan
+
+
+def shown(plan):
+    """The rounds of a plan as text, a line for each step."""
+    yield f"{plan.machines} machines, --at-once {plan.at_once}, --format {plan.format}, init {plan.numbers}"
+    for it in plan.rounds:
+        yield f"round {it.number}: edits of {it.edits}" + ", append-only" * it.append_only + ", a prune behind it" * it.prunes + ", a power cut" * it.is_cut
+        yield from (f"  machine {job.machine} after {job.delay} s: {job.word} {job.number}" for job in it.jobs)
+        yield from (f"  disturbed after {each.at} s for {each.seconds} s: {each.word} {each.number}" for each in it.disturbances)
+
+
+def plays(plan, given):
+    """Plays a plan that is drawn; the exit status."""
+    counts, begun = Counter(), time.monotonic()
+    until = begun + 60 * given.minutes
+    rounds = plan.rounds or drawn(plan, given.rounds, until)
+    faults, played = faults_of(plan, counts, rounds)
+    print(f"seed {plan.seed}: {', '.join(f'{count} {word}' for word, count in sorted(counts.items()))}, in {round(time.monotonic() - begun)} s", flush=True)
+    if not faults:
+        return 0
+    print("\n".join(faults), flush=True)
+    plan.rounds = played
+    plan = shrunk(plan, time.monotonic() + 60 * given.shrink)
+    kept = Path(given.keep) / f"campaign-{plan.seed}.json"
+    plan.stores(kept)
+    print("\n".join([*shown(plan), f"{kept}: play it again with --plan"]))
+    return 1
+
+
+def plays_all_scripts(seed, given):
+    """Plays scripts; the exit status."""
+    begun = time.monotonic()
+    fault, counts = plays_scripts(seed, begun + 60 * given.minutes, given.rounds, new_folder())
+    print(f"seed {seed}: {', '.join(f'{count} {word}' for word, count in sorted(counts.items()))}, in {round(time.monotonic() - begun)} s")
+    print(fault or "", end="")
+    return 1 if fault else 0
+
+
+def words():
+    parser = argparse.ArgumentParser(description=__doc__.split("\n")[0])
+    parser.add_argument("--seed", type=int, help="the number that decides what happens; random if left out")
+    parser.add_argument("--minutes", type=float, default=10, help="how many minutes new rounds are begun (10)")
+    parser.add_argument("--rounds", type=int, default=-1, help="the greatest number of rounds")
+    parser.add_argument("--at-once", type=int, default=0, help="how many connections the server serves at once; random if left out")
+    parser.add_argument("--format", type=int, default=0, choices=(1, 2), help="the version of the store; random if left out")
+    parser.add_argument("--shrink", type=float, default=5, metavar="MINUTES", help="how many minutes a smaller plan that fails is looked for (5)")
+    parser.add_argument("--scripts", action="store_true", help="plays scripts in place of machines")
+    parser.add_argument("--plan", metavar="FILE", help="plays this plan")
+    parser.add_argument("--keep", metavar="FOLDER", default=".", help="where a failing plan is stored (here)")
+    parser.add_argument("vault", nargs="?", default=OPTIONS.program, help="the program")
+    return parser.parse_args()
+
+
+def main():
+    given = words()
+    OPTIONS.program = os.path.abspath(given.vault)
+    ends_on_signal()
+    OPTIONS.room = makes_room()
+    try:
+        seed = given.seed if given.seed is not None else random.SystemRandom().randrange(1 << 32)
+        if given.scripts:
+            return plays_all_scripts(seed, given)
+        return plays(read_plan(given.plan) if given.plan else new_plan(seed, given.at_once, given.format), given)
+    finally:
+        clears(OPTIONS.room)
+
+
+if __name__ == "__main__":
+    sys.exit(main())

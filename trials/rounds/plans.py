@@ -1,0 +1,123 @@
+"""What a campaign does, drawn from a seed: rounds of edits, jobs side by side and disturbances. A plan is data: it can be stored, played
+again, and made smaller."""
+import json
+import random
+from dataclasses import asdict, dataclass, field, replace
+from pathlib import Path
+
+# The numbers of a store, and the greatest file of a machine: tiny chunks, so that there are many objects; small ones; those of a store by default.
+STORES = [("--min 64 --max 128 --bits 6 --target 1024", 2_000), ("--min 4096 --max 65536 --bits 12 --target 65536", 300_000),
+          ("--min 4096 --max 65536 --bits 12 --target 65536", 1_000_000), ("", 40_000_000)]
+JOBS = ["backup"] * 12 + ["restore"] * 5 + ["list"] * 3 + ["forget"] * 4 + ["policy"] * 2 + ["prune"] * 4 + ["check"] * 2 + ["upgrade", "unlock"]
+DISTURBANCES = ["kill client"] * 4 + ["kill server"] * 5 + ["cut"] * 4 + ["stall"] * 2 + ["stop client"] * 2 + ["stop server"] * 2 + [
+    "full disk", "failing call", "failing call", "clock", "remove locks", "remove locks", "busy folder", "take tokens", "take tokens"]
+FAILING = [("fsync", "EIO"), ("fsync", "ENOSPC"), ("rename", "EIO"), ("write", "ENOSPC"), ("unlink,unlinkat", "EIO"), ("openat", "EMFILE"), ("getdents64", "EIO")]
+# The jobs while a store grows: it gets more objects of a kind than a page of a list has.
+GROWING = ["backup"] * 20 + ["restore", "list", "check"]
+# A store that grows does so for the first of each so many rounds.
+GROWTH, PERIOD = 50, 60
+# A power cut comes each so many rounds.
+CUTS = 10
+
+
+@dataclass
+class Job:
+    """A command of a machine. The number picks a snapshot, or says how many a policy keeps."""
+
+    machine: int
+    word: str
+    delay: float
+    number: int = 0
+
+
+@dataclass
+class Disturbance:
+    """What goes wrong after so many seconds, for so long; the number picks the machine, or the call that fails."""
+
+    word: str
+    at: float
+    seconds: float
+    number: int
+
+
+@dataclass
+class Round:
+    number: int
+    edits: list = field(default_factory=list)
+    jobs: list = field(default_factory=list)
+    disturbances: list = field(default_factory=list)
+    append_only: bool = False
+    prunes: bool = False
+    is_cut: bool = False
+
+
+@dataclass
+class Plan:
+    seed: int
+    machines: int
+    at_once: int
+    format: int
+    numbers: str
+    greatest: int
+    rounds: list = field(default_factory=list)
+    grows: bool = False
+
+    def stores(self, path):
+        Path(path).write_text(json.dumps(asdict(self)))
+
+
+def read_plan(path):
+    """A plan that was stored."""
+    read = json.loads(Path(path).read_text())
+    rounds = [Round(**{**it, "jobs": [Job(**job) for job in it["jobs"]], "disturbances": [Disturbance(**each) for each in it["disturbances"]]})
+              for it in read.pop("rounds")]
+    return Plan(**read, rounds=rounds)
+
+
+def new_plan(seed, at_once, version):
+    """A plan without rounds."""
+    chance = random.Random(f"plan {seed}")
+    numbers, greatest = chance.choice(STORES)
+    plan = Plan(seed, chance.randrange(2, 7), at_once or chance.choice((1, 4, 8)), version or chance.choice((1, 2)), numbers, greatest)
+    plan.grows = chance.random() < 0.3
+    return plan
+
+
+def drawn_round(plan, number):
+    """The next round of a plan. It goes by the seed and its number alone."""
+    chance = random.Random(f"round {plan.seed} {number}")
+    machines = range(plan.machines)
+    is_growing = plan.grows and number % PERIOD < GROWTH
+    jobs = [Job(machine, chance.choice(GROWING if is_growing else JOBS), round(chance.random() ** 3 * 0.6, 3), chance.randrange(1 << 16))
+            for machine in machines for _ in range(chance.choice((0, 1, 1, 1, 2)))]
+    is_cut = number % CUTS == CUTS - 1
+    disturbances = [Disturbance(chance.choice(DISTURBANCES), round(chance.random() ** 2 * 0.8, 3), round(chance.random() * 0.6, 3), chance.randrange(1 << 16))
+                    for _ in range(0 if is_cut else chance.choice((0, 0, 1, 1, 1, 2, 3)))]
+    return Round(number, [machine for machine in machines if chance.random() < 0.7], jobs, disturbances, chance.random() < 0.15,
+                 chance.random() < 0.35 and not is_growing, is_cut)
+
+
+def without(items, at):
+    return items[:at] + items[at + 1:]
+
+
+def smaller(plan):
+    """Plans that do a little less: first without many rounds, then without machines, one round, a job, a disturbance or an edit."""
+    rounds, made = plan.rounds, []
+    for keep in (len(rounds) // 8, len(rounds) // 4, len(rounds) // 2):
+        if 0 < keep < len(rounds):
+            made.append(rounds[-keep:])
+    for machine in reversed(range(plan.machines)):
+        fewer = [Round(it.number, [each for each in it.edits if each != machine], [job for job in it.jobs if job.machine != machine], it.disturbances,
+                       it.append_only, it.prunes, it.is_cut) for it in rounds]
+        if fewer != rounds:
+            made.append(fewer)
+    made += [without(rounds, at) for at in range(len(rounds) - 1)]
+    for at, it in enumerate(rounds):
+        changed = [Round(it.number, it.edits, without(it.jobs, job), it.disturbances, it.append_only, it.prunes, it.is_cut) for job in range(len(it.jobs))]
+        changed += [Round(it.number, it.edits, it.jobs, without(it.disturbances, each), it.append_only, it.prunes, it.is_cut) for each in range(len(it.disturbances))]
+        changed += [Round(it.number, without(it.edits, each), it.jobs, it.disturbances, it.append_only, it.prunes, it.is_cut) for each in range(len(it.edits))]
+        if it.append_only or it.prunes:
+            changed.append(Round(it.number, it.edits, it.jobs, it.disturbances, False, False, it.is_cut))
+        made += [[*rounds[:at], each, *rounds[at + 1:]] for each in changed]
+    return [replace(plan, rounds=each) for each in made]
