@@ -87,7 +87,7 @@ for key in "${!names[@]}"; do
     says 0 "complete *" restore "$address" "${names[$key]}" "$work/restored/$key"
     diff -r "$work/copies/$key" "$work/restored/$key"
 done
-says 1 "missing snapshot" restore "$address" "$gone" "$work/gone"
+says 1 "missing snapshot"$'\n'"snapshot $gone" restore "$address" "$gone" "$work/gone"
 says 0 "" locks "$address"
 after=$(du -s "$work/store" | cut -f 1)
 echo "The same names and bytes in all ${#names[@]}. The store has $after KiB, and had $before before."

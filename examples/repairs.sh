@@ -83,7 +83,7 @@ restores "$name"
 echo "== a snapshot is damaged"
 second=$name
 echo >>"snapshots/$second"
-served_says 1 "bad snapshot" snapshots "$address"
+served_says 1 "bad snapshot"$'\n'"snapshot $second" snapshots "$address"
 served_says 0 "forgotten $second" forget "$address" "$second"
 backs_up "stored * 0 0"
 
@@ -95,7 +95,7 @@ bad=$(find data index snapshots -type f | while read -r file; do
     [ "$(sha256sum <"$file" | cut -c 1-64)" = "${file##*/}" ] || echo "$file"
 done)
 [ "$bad" = "$index" ]
-served_says 1 "bad index" restore "$address" "$second" "$work/none"
+served_says 1 "bad index"$'\n'"index ${index##*/}" restore "$address" "$second" "$work/none"
 mv "$index" "$work/bad index"
 backs_up "stored * * *"
 restores "$second"
@@ -105,7 +105,7 @@ lost=$(find data -type f -size +1024k | sort | head -n 1)
 lost=$(basename "$lost")
 rm "data/${lost:0:2}/$lost"
 rm -rf "$work/none"
-served_says 1 "missing pack" restore "$address" "$second" "$work/none"
+served_says 1 "missing pack"$'\n'"pack $lost" restore "$address" "$second" "$work/none"
 backs_up "stored * 0 0"
 grep -l "$lost" index/* | while read -r index; do
     python3 -c 'import json, sys; t = json.load(sys.stdin); t["packs"] = [p for p in t["packs"] if p["id"] != sys.argv[1]]; print(json.dumps(t))' "$lost" <"$index" >tmp/new
@@ -123,7 +123,7 @@ echo newer >"$work/photos/newer"
 backs_up "stored * 2 *"
 mv store before
 mv copy store
-served_says 1 "missing snapshot" restore "$address" "$name" "$work/gone"
+served_says 1 "missing snapshot"$'\n'"snapshot $name" restore "$address" "$name" "$work/gone"
 serve 10
 "$vault" unlock "$address" --remove-all
 stop
