@@ -59,6 +59,8 @@ class Campaign:
         self.store, self.tokens, self.history, self.reader = Store(self.top, plan), Tokens(), History(), Reader()
         self.machines = [Machine(self.top, number, self) for number in range(plan.machines)]
         self.clock, self.restoring = clock_library(self.top), {}
+        # The tokens that were given before the round that a power cut ends.
+        self.given_before = set()
         self.store.serves()
 
     def ends(self):
@@ -99,6 +101,7 @@ class Campaign:
         if it.is_cut and self.store.is_traceable:
             shutil.rmtree(self.top / "before", ignore_errors=True)
             shutil.copytree(self.store.store, self.top / "before")
+            self.given_before = set(self.tokens.seen)
             self.store.serves_recorded()
         elif failing and self.store.is_traceable:
             number = failing[0].number

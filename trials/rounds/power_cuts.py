@@ -49,7 +49,7 @@ def judge_before(campaign, chance):
         for path in before.glob(pattern):
             judge.answers.objects[bytes([kind]), path.name] = True
     judge.answers.stored = {path.name for path in before.glob("snapshots/*")}
-    judge.answers.tokens = set(campaign.tokens.seen)
+    judge.answers.tokens = set(campaign.given_before)
     return judge
 
 
