@@ -74,7 +74,7 @@ def a_port_that_the_system_chooses(yard):
 
 @in_store
 def a_server_without_descriptors_waits_for_them(yard):
-    """What the next connection needs is taken away while one is served, and given back: no connection is lost."""
+    """What the next connection needs is taken away while one is served, and given back: no connection is lost, and one line reports it."""
     with Server(yard.root, connections=2) as server:
         limits = resource.prlimit(server.process.pid, resource.RLIMIT_NOFILE)
         with server.connected(bytes.fromhex(TICKET)) as client:
@@ -83,7 +83,7 @@ def a_server_without_descriptors_waits_for_them(yard):
         time.sleep(0.5)
         resource.prlimit(server.process.pid, resource.RLIMIT_NOFILE, limits)
         same(server.asked(TICKET), token(2))
-        same(server.end(), "0||")
+        same(server.end(), "1||read failed\n")
 
 
 @in_store

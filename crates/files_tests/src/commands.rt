@@ -4,14 +4,11 @@
 use repo_dial::{Once, Recorder, Tape, Went};
 use repo_name::{Instance, Token};
 use repo_prog::{
-    Arrivals, Caller, Console, FramesError, Listen, Route, Status, frames, locks_command,
+    Caller, Console, FramesError, Route, Status, frames, locks_command,
     refresh_command, snapshots_command,
 };
 use std::alloc::{AllocError, Global};
 use std::io;
-use std::net::{OpenListener, SocketAddr, TcpStream};
-use std::rt::Clock;
-use std::time::Duration;
 
 const CALLER: Caller = Caller {
     instance: Instance([1; 16]),
@@ -152,36 +149,4 @@ fn a_job_asks_in_turn(rt: HostRuntime) {
         Err(_) => false,
     };
     assert_eq!(rt; (is_listed, is_cut_off), (true, true));
-}
-
-/// A listener that gives no connection.
-#[derive(Drop)]
-struct Deaf;
-
-impl OpenListener for Deaf {
-    type Stream = TcpStream;
-
-    fn accept(&self) -> io::Result<(TcpStream, SocketAddr)> {
-        Err(io::Error::from(io::ErrorKind::ConnectionAborted))
-    }
-}
-
-/// A clock that stands still, and on which no sleep takes time.
-#[derive(Drop)]
-struct Still;
-
-impl Clock for Still {
-    fn monotonic(&self) -> io::Result<Duration> {
-        Ok(Duration::ZERO)
-    }
-
-    fn since_1970(&self) -> io::Result<Duration> {
-        Ok(Duration::ZERO)
-    }
-}
-
-#[test]
-fn a_connection_that_cannot_be_taken_is_none(rt: HostRuntime) {
-    let mut arrivals = Arrivals::at(&Still, &Deaf, None);
-    assert!(rt; arrivals.accept().is_none());
 }

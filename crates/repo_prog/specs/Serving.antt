@@ -13,36 +13,41 @@ pub record Visit (C : Type 0) : Type 0 where
   pub left : C
   pub result : Result ℕ ServeError
 
--- how the next connection ended; where none could be had, as one of which nothing could be read
+-- what came of waiting for a connection: whether taking one failed before it was had; and the visit, or none if the connection that was taken couldn't be served
+pub record Turn (C : Type 0) : Type 0 where
+  pub refused : Bool
+  pub visit : Option (Visit C)
+
+-- how the next connection ended; one that couldn't be served, as one of which nothing could be read
 abbrev pub ending : {C : Type 0} → Option (Visit C) → Result ℕ ServeError
 ending (Some visit) = visit.result
 ending None = Err ServeError.Read
 
--- the next connection was accepted, served over this store, and given back to the listener as serving left it; or none could be had, and nothing was done
--- to the store
-abbrev pub IsServed : {L C : Type 0} → (Accepts : L → Option C → L → Type 0) → (Leaves : L → C → L → Type 0) → (Hears Says : C → List ℕ → C → Type 0) → (IsOver : C → Type 0) → Option (Visit C) → L → Store → ℕ → L → Store → ℕ → Type 0
-IsServed {L} Accepts Leaves Hears Says IsOver (Some visit) old from failures new to count =
-    (mid : L) × Accepts old (Some visit.came) mid × ServesChannel Hears Says IsOver visit.came from failures visit.result visit.left to count × Leaves mid visit.left new
-IsServed Accepts Leaves Hears Says IsOver None old from failures new to count = Accepts old None new × (to ≡ from) × (count ≡ failures)
+-- the next connection was accepted, served over this store, and given back to the listener as serving left it; or it couldn't be served, and nothing was
+-- done to the store
+abbrev pub IsServed : {L C : Type 0} → (Accepts : L → Bool → Option C → L → Type 0) → (Leaves : L → C → L → Type 0) → (Hears Says : C → List ℕ → C → Type 0) → (IsOver : C → Type 0) → Bool → Option (Visit C) → L → Store → ℕ → L → Store → ℕ → Type 0
+IsServed {L} Accepts Leaves Hears Says IsOver refused (Some visit) old from failures new to count =
+    (mid : L) × Accepts old refused (Some visit.came) mid × ServesChannel Hears Says IsOver visit.came from failures visit.result visit.left to count × Leaves mid visit.left new
+IsServed Accepts Leaves Hears Says IsOver refused None old from failures new to count = Accepts old refused None new × (to ≡ from) × (count ≡ failures)
 
 -- these were served, the newest first, each accepted from the listener as the one before it left that, and served over the store that the one before it
 -- left; and nothing else was done to either
-abbrev pub AreServed : {L C : Type 0} → (Accepts : L → Option C → L → Type 0) → (Leaves : L → C → L → Type 0) → (Hears Says : C → List ℕ → C → Type 0) → (IsOver : C → Type 0) → List (Option (Visit C)) → L → Store → ℕ → L → Store → ℕ → Type 0
+abbrev pub AreServed : {L C : Type 0} → (Accepts : L → Bool → Option C → L → Type 0) → (Leaves : L → C → L → Type 0) → (Hears Says : C → List ℕ → C → Type 0) → (IsOver : C → Type 0) → List (Turn C) → L → Store → ℕ → L → Store → ℕ → Type 0
 AreServed Accepts Leaves Hears Says IsOver [] old from failures new to count = (new ≡ old) × (to ≡ from) × (count ≡ failures)
-AreServed {L} Accepts Leaves Hears Says IsOver (visit ∷ earlier) old from failures new to count =
-    (mid : L) × (between : Store) × (k : ℕ) × AreServed Accepts Leaves Hears Says IsOver earlier old from failures mid between k × IsServed Accepts Leaves Hears Says IsOver visit mid between k new to count
+AreServed {L} Accepts Leaves Hears Says IsOver (turn ∷ earlier) old from failures new to count =
+    (mid : L) × (between : Store) × (k : ℕ) × AreServed Accepts Leaves Hears Says IsOver earlier old from failures mid between k × IsServed Accepts Leaves Hears Says IsOver turn.refused turn.visit mid between k new to count
 
--- each could be had, and ended well
-abbrev pub AreWell : {C : Type 0} → List (Option (Visit C)) → Type 0
-AreWell visits = All (λ visit. IsOk (ending visit)) visits
+-- each was taken at once and served, and ended well
+abbrev pub AreWell : {C : Type 0} → List (Turn C) → Type 0
+AreWell turns = All (λ turn. (turn.refused ≡ false) × IsOk (ending turn.visit)) turns
 
--- just so many connections were served one after another, and all is done exactly where each could be had, and ended well
-pub record ServesInTurn {L C : Type 0} (Accepts : L → Option C → L → Type 0) (Leaves : L → C → L → Type 0) (Hears Says : C → List ℕ → C → Type 0) (IsOver : C → Type 0) (connections : ℕ) (status : Status)
+-- Just so many connections were taken and served one after another. All is done exactly if taking one never failed, and each could be served and ended well.
+pub record ServesInTurn {L C : Type 0} (Accepts : L → Bool → Option C → L → Type 0) (Leaves : L → C → L → Type 0) (Hears Says : C → List ℕ → C → Type 0) (IsOver : C → Type 0) (connections : ℕ) (status : Status)
     (old : L) (from : Store) (failures : ℕ) (new : L) (to : Store) (count : ℕ) : Type 0 where
-  pub visits : List (Option (Visit C))
-  pub number : length visits ≡ connections
-  pub served : AreServed Accepts Leaves Hears Says IsOver visits old from failures new to count
-  pub done : (status ≡ Status.Done) ↔ AreWell visits
+  pub turns : List (Turn C)
+  pub number : length turns ≡ connections
+  pub served : AreServed Accepts Leaves Hears Says IsOver turns old from failures new to count
+  pub done : (status ≡ Status.Done) ↔ AreWell turns
 
 -- what connections that were served at once asked was answered in a hall, by some log in which its guests were served in turn
 abbrev pub ServesAtOnce : Store → ℕ → Store → ℕ → Type 0

@@ -15,8 +15,12 @@ Exit status:
 
 /// Below the help of `vault serve`.
 pub const SERVE: &str = "\
+It writes `listening` once it listens. If the port of the address is 0, the system chooses the port, and a second
+line is `address HOST:PORT`.
+
 A connection on which nothing comes for so many seconds, or that takes nothing of what is written to it, is
-ended, and the next one is served. With 0 none is.
+ended, and the next one is served. With 0 none is. If a connection can't be taken, as for want of descriptors,
+`read failed` is written once, and it is tried again ten times a second.
 
 With --at-once several connections are open, 256 at most, and one request of each is answered in turn; a slow or a
 silent one holds nobody up. Time in which another's long request is answered counts against no connection.
@@ -63,6 +67,10 @@ Exit status:
 
 /// Below the help of `vault restore`.
 pub const RESTORE: &str = "\
+The folder is made if it isn't there. If it is there it must be empty; a file system's own `lost+found` doesn't count.
+Folders are made with mode 0700 and files with 0600, whatever the umask is. If root restores, and another user may
+write in the folder or in one above it, the restore ends with `target not safe`.
+
 With --retry N it connects again where a connection ends or can't be had, N times at most and without a pause, and
 goes on where it stood. The error of the last try is told.
 

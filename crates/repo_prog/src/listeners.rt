@@ -1,9 +1,10 @@
 //! Listeners, which give one connection after another.
 
-ghost use Rattle.std.specs.Prelude.{◌≡◌, Option};
+ghost use Rattle.std.specs.Prelude.{◌≡◌, Bool, false, Option};
 
+use crate::status::tell;
 use repo_dial::{Pair, pair_of};
-use repo_store::Channel;
+use repo_store::{Channel, ServeError};
 use std::io::{Read, Write};
 use std::net::{OpenListener, OpenStream};
 use std::rt::Clock;
@@ -13,43 +14,67 @@ use std::time::Duration;
 /// How many milliseconds pass until the next try if a connection couldn't be taken.
 const PAUSE: u64 = 100;
 
-/// How many tries there are for one connection, those of a minute.
-const TRIES: u64 = 600;
+/// A connection that was waited for.
+#[derive(Drop)]
+pub struct Arrival<E: Drop> {
+    /// Both ends of it. `None` if it was taken, and can't be served.
+    pub ends: Option<E>,
+    /// Taking one failed before, and that was reported.
+    pub refused: bool,
+}
 
 /// A listener, at which one connection after another is waited for.
 pub trait Listen {
     /// Both ends of a connection.
     type Ends: Channel + Drop;
 
-    /// Where waiting for the next connection leads, and what was had: `None` where none could be.
-    ghost accepts: { Self → Option Self.Ends → Self → Type 0 };
+    /// Where waiting for the next connection leads, whether taking one failed before, and what was had: `None` if it can't be served.
+    ghost accepts: { Self → Bool → Option Self.Ends → Self → Type 0 };
 
     /// Where giving a connection back leads, as it was left.
     ghost leaves: { Self → Self.Ends → Self → Type 0 };
 
-    /// Waits for the next connection, and gives its ends. `None` where it can't be had.
-    fn accept(&mut self) -> Option<Self::Ends>
-        ensures { accepts self.old result self.new };
+    /// Waits for the next connection, and returns its ends. If taking one fails, it is reported once, and tried again.
+    fn accept<F: Write>(&mut self, faults: &mut F) -> Arrival<Self::Ends>
+        ensures accepted { accepts self.old result.refused result.ends self.new }
+        ensures silent { result.refused ≡ false → faults.new ≡ faults.old };
 
     /// Takes a connection back over which nothing more is said or heard.
     fn hang_up(&mut self, connection: Self::Ends)
         ensures { leaves self.old connection self.new };
 }
 
-/// Takes the next connection of a listener. If that fails, as without free descriptors, it tries again after a pause, for a minute
-/// in all.
-fn take<C: Clock, L: OpenListener>(clock: &C, listener: &L) -> Option<L::Stream> {
-    for _ in 0..TRIES {
-        match listener.accept() {
-            Ok((stream, _)) => return Some(stream),
-            Err(_) => sleep(clock, Duration::from_millis(PAUSE)),
+/// Takes the next connection of a listener, and returns whether taking one failed before. If it fails, as without free descriptors,
+/// that is reported the first time, and tried again after each pause.
+fn take<C: Clock, L: OpenListener, F: Write>(
+    clock: &C,
+    listener: &L,
+    faults: &mut F,
+) -> Arrival<L::Stream>
+    ensures silent { result.refused ≡ false → faults.new ≡ faults.old }
+{
+    let mut refused = false;
+    for _ in 0..u64::MAX {
+        if let Ok((stream, _)) = listener.accept() {
+            return Arrival {
+                ends: Some(stream),
+                refused,
+            };
         }
+        if !refused {
+            tell(faults, &ServeError::Read);
+            refused = true;
+        }
+        sleep(clock, Duration::from_millis(PAUSE));
     }
-    None
+    Arrival {
+        ends: None,
+        refused,
+    }
 }
 
-/// The connections that arrive at a bound listener, each of which ends once it is idle for so long. A connection can't be had if none
-/// could be taken for a minute, or if no second handle of one that was taken could be made.
+/// The connections that arrive at a bound listener, each of which ends once it is idle for so long. A connection that was taken
+/// can't be served if no second handle of it can be made.
 #[derive(Drop)]
 pub struct Arrivals<'a, C, L> {
     clock: &'a C,
@@ -78,14 +103,18 @@ where
 
     type Ends = Pair<L::Stream, L::Stream>;
 
-    ghost accepts = { λ old had new. new ≡ old };
+    ghost accepts = { λ old refused had new. new ≡ old };
 
     ghost leaves = { λ old left new. new ≡ old };
 
-    fn accept(&mut self) -> Option<Pair<L::Stream, L::Stream>> {
-        match take(self.clock, self.listener) {
-            Some(stream) => pair_of(stream, self.idle),
-            None => None,
+    fn accept<F: Write>(&mut self, faults: &mut F) -> Arrival<Pair<L::Stream, L::Stream>> {
+        let Arrival { ends, refused } = take(self.clock, self.listener, faults);
+        Arrival {
+            ends: match ends {
+                Some(stream) => pair_of(stream, self.idle),
+                None => None,
+            },
+            refused,
         }
     }
 

@@ -1,6 +1,6 @@
 //! `vault serve`.
 
-ghost use Rattle.std.specs.Prelude.{◌≡◌, ◌≤◌, ◌<◌, ◌↔◌, ◌⊎◌, ◌++◌, Option, true, IfOk, IsOk, OnOk, OnErr, string_bytes};
+ghost use Rattle.std.specs.Prelude.{◌≡◌, ◌≤◌, ◌<◌, ◌↔◌, ◌⊎◌, ◌++◌, Option, true, false, IfOk, IsOk, OnOk, OnErr, string_bytes};
 ghost use Rattle.std.specs.Io.KnownBytes.{Appends};
 ghost use Rattle.repo_prog.specs.Commands.{IsEnd, Listens, ListensAtMost, ListensBy, address_line, listening_line};
 ghost use Rattle.repo_prog.specs.Serving.{IsServed, ServesAtOnce, ServesInTurn, Visit, as_served, ending};
@@ -11,7 +11,7 @@ ghost use Rattle.repo_store.specs.Serving.{Ran};
 
 use crate::addresses::host_alone;
 use crate::consoles::Console;
-use crate::listeners::{Arrivals, Listen};
+use crate::listeners::{Arrival, Arrivals, Listen};
 use crate::status::{Status, failed, failed_by};
 use repo_files::{HoldFile, open_store};
 use repo_many::{Manner, Served, serve_many};
@@ -24,45 +24,58 @@ use std::os::fd::AsRawFd;
 use std::rt::Clock;
 use std::time::Duration;
 
+/// How serving a connection ended, and whether taking one failed before, which was reported.
+#[derive(Drop)]
+struct Visited {
+    refused: bool,
+    result: Result<u64, ServeError>,
+}
+
 /// Waits for the next connection, serves it, from its first request to its end, and gives it back as serving left it. One that
-/// can't be had is as one of which nothing can be read.
-fn serve_next<L: Listen, S: Shelf>(
+/// can't be served is as one of which nothing can be read.
+fn serve_next<L: Listen, S: Shelf, F: Write>(
     alloc: Global,
     listener: &mut L,
     shelf: &mut S,
-) -> Result<u64, ServeError>
-    ensures served { S.honest shelf.old → (visit : Option (Visit L.Ends)) × (result ≡ ending visit)
-        × IsServed L.accepts L.leaves L.Ends.hears L.Ends.says L.Ends.is_over visit listener.old (S.store shelf.old) (S.failed shelf.old)
+    faults: &mut F,
+) -> Visited
+    ensures served { S.honest shelf.old → (visit : Option (Visit L.Ends)) × (result.result ≡ ending visit)
+        × IsServed L.accepts L.leaves L.Ends.hears L.Ends.says L.Ends.is_over result.refused visit listener.old (S.store shelf.old) (S.failed shelf.old)
         listener.new (S.store shelf.new) (S.failed shelf.new) }
     ensures kept { S.honest shelf.old → OnlyAppends (S.store shelf.old) (S.store shelf.new) }
     ensures honest { S.honest shelf.old → S.honest shelf.new }
+    ensures silent { result.refused ≡ false → faults.new ≡ faults.old }
 {
-    match listener.accept() {
+    let Arrival { ends, refused } = listener.accept(faults);
+    let result = match ends {
         Some(mut ends) => {
             let served = serve_over(alloc, &mut ends, shelf);
             listener.hang_up(ends);
             served
         }
         None => Err(ServeError::Read),
-    }
+    };
+    Visited { refused, result }
 }
 
-/// The status after a connection: where it ended by an error the text is told.
-fn status_after<F: Write>(status: Status, served: Result<u64, ServeError>, faults: &mut F) -> Status
+/// The status after a connection. If it ended by an error, that is reported.
+fn status_after<F: Write>(status: Status, served: Visited, faults: &mut F) -> Status
     ensures silent { result ≡ Status.Done → faults.new ≡ faults.old }
     ensures status { IsEnd status → IsEnd result }
-    ensures done { (result ≡ Status.Done) ↔ ((status ≡ Status.Done) × IsOk served) }
+    ensures done { (result ≡ Status.Done) ↔ ((status ≡ Status.Done) × (served.refused ≡ false) × IsOk served.result) }
 {
-    match served {
+    match served.result {
+        Ok(_) if served.refused => Status::Failed,
         Ok(_) => status,
         Err(error) => failed(faults, &error),
     }
 }
 
-/// Waits so many times for a connection, one after another, serves each, from its first request to its end, and gives it back
-/// to the listener as serving left it: nothing goes over it behind that. Where one ends by an error its text is told, the next
-/// is served, and the status at the end is `Failed`. A connection that can't be had counts, with the text `read failed`. `Done`
-/// says that each could be had, and ended without an error.
+/// Takes so many connections, one after another, serves each, from its first request to its end, and gives it back to the
+/// listener as serving left it: nothing goes over it behind that. If one ends by an error, its text is printed, the next is
+/// served, and the status at the end is `Failed`. Taking one that fails is no connection: `read failed` is printed once, the
+/// next try comes after a pause, and the status at the end is `Failed`. `Done` means that taking one never failed, and each
+/// connection was served and ended without an error.
 ///
 /// The shelf is where the connections' own requests lead, connection after connection, and nothing else; over each, whenever
 /// more was heard, all was served that had been heard before. Whatever they bring, a store that only appends keeps each object.
@@ -82,7 +95,7 @@ pub fn serve_connections<L: Listen, S: Shelf, F: Write>(
 {
     let mut status = Status::Done;
     for turn in 0..connections {
-        let served = serve_next(alloc, listener, shelf);
+        let served = serve_next(alloc, listener, shelf, faults);
         status = status_after(status, served, faults);
     }
     status
