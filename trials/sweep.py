@@ -6,10 +6,16 @@ Usage: trials/sweep.py [--every N] [VAULT]
 Every world is a list of clients that run one after another; in some of them a prune has crashed, a deletion is under way, or a lock
 was removed; some backups are fed, and each item is a step, too. Before each step of each of them, once: the client stops for good; it stops, its lock is removed, and its last request
 comes late, behind all others; its lock is removed and it goes on; or the device fails in that step, after its change, before it, or
-where it reads. The clients after it run on. Then all locks are removed, and a check has to be clean, and each snapshot that was reported as stored, and that no
-forget was asked to delete, has to be restored whole. What is printed has to stay the same where each request so far comes
-once more before the report, and where the store is closed and opened before each line, unless the device failed where it reads:
-a store that remembers reads at other steps.
+where it reads. The clients after it run on. Then all locks are removed, and a check has to be clean.
+
+Each snapshot that was reported as stored, and that no forget was asked to delete, has to be restored whole. A script prints no bytes. So
+the reference in scripts/cases plays it too: it has to print the same, and what it restores has to be what the backup was handed, byte for
+byte. At last a backup of the same entries has to find each blob there, `stored 0 0`.
+
+What is printed has to stay the same where each request so far comes once more before the report, and where the store is closed and
+opened before each line, unless the device failed where it reads: a store that remembers reads at other steps.
+
+Four of the worlds are scripts that were worked out by hand (scripts/cases/played_cases.py), line by line.
 
 VAULT is the program; without it the one that `scripts/vault.sh` builds is run. With N only each N-th disturbance is tried. Nothing is
 kept.
@@ -22,20 +28,27 @@ import sys
 from dataclasses import dataclass, replace
 from pathlib import Path
 
+sys.dont_write_bytecode = True
+sys.path.insert(0, str(Path(__file__).resolve().parents[1] / "scripts/cases"))
+from played_cases import UPGRADED, WORKED
+from plays import Player
+
 PROGRAM = Path(__file__).resolve().parents[1] / "crates/vault/out/vault"
 FAILURES = ("applied", "unapplied", "read")
 # More steps than a client of these worlds takes.
 MANY = 100
 # The bytes of a larger file. All are in one pack, which is put once the items end: that a pack becomes due within a piece is for the cases.
-MANY_BYTES = bytes(number * number // 7 % 256 for number in range(1_500)).hex()
+MANY_BYTES = bytes(number * number // 7 % 256 for number in range(800)).hex()
 
 
 @dataclass
 class Client:
-    """A client: the lines that start it, how many entries it is handed, the clients whose snapshots it names, those that it may delete,
-    how it runs where it isn't the one that is disturbed, and where it is fed, its steps: {0} is its number, and {1} its token."""
+    """A client: the lines that start it, the same if it is a backup that is handed its entries, how many entries these are, the clients
+    whose snapshots it names, those that it may delete, how it runs where it isn't the one that is disturbed, and where it is fed, its
+    steps: {0} is its number, and {1} its token."""
 
     lines: list
+    again: tuple = ()
     entries: int = 0
     names: tuple = ()
     forgets: tuple = ()
@@ -51,10 +64,32 @@ class Client:
 
 
 def backup(host, time, *entries):
-    return Client([*entries, f"start backup {host} {time}"], entries=len(entries))
+    lines = [*entries, f"start backup {host} {time}"]
+    return Client(lines, tuple(lines), len(entries))
 
 
-def fed(host, time, *items, entries):
+def handed(items):
+    """The lines of the entries that are fed as these items."""
+    path, lines, data = [], [], None
+    for item in items:
+        word, *rest = item.split(" ")
+        if word in ("dir", "file"):
+            path.append(rest[0])
+            if word == "dir":
+                lines.append(f"dir {'/'.join(path)}")
+            else:
+                data = ""
+        elif word == "bytes":
+            data += rest[0]
+        elif word == "close":
+            if data is not None:
+                lines.append(f"file {'/'.join(path)} {data or '-'}")
+            data = None
+            path.pop()
+    return lines
+
+
+def fed(host, time, *items):
     """A backup that is fed: behind each item come steps for what it may have to put."""
     feeds = [f"feed {{0}} {item}" for item in items]
     steps = ["step {0}"] * 8
@@ -63,7 +98,8 @@ def fed(host, time, *items, entries):
     runs = ["finish {0}"]
     for feed in feeds:
         runs += [feed, "finish {0}"]
-    return Client([f"start pieces {host} {time}"], entries=entries, runs=tuple(runs), steps=tuple(steps))
+    again = [*handed(items), f"start backup {host} {time}"]
+    return Client([f"start pieces {host} {time}"], tuple(again), len(again) - 1, runs=tuple(runs), steps=tuple(steps))
 
 
 def forget(*clients):
@@ -89,7 +125,12 @@ def prune_until(word, *behind):
 
 def without_lock(client, word):
     """A client whose lock is removed when it is about to ask this, and that goes on."""
-    return Client(client.lines, client.entries, client.names, client.forgets, (f"until {{0}} {word}", "unlock {1}", "finish {0}"))
+    return replace(client, runs=(f"until {{0}} {word}", "unlock {1}", "finish {0}"))
+
+
+def runs(client, *lines):
+    """The same client, which runs so."""
+    return replace(client, runs=lines)
 
 
 TWO = [backup("a", 1, "file x 61", "file y 62"), backup("a", 2, "file x 61")]
@@ -142,14 +183,45 @@ WORLDS = {
     ],
     "backups that are fed": [
         backup("a", 1, "file x 616263"),
-        fed("b", 2, "dir d", "file x", "bytes 616263", "close", "close", "file y", f"bytes {MANY_BYTES}", "close", "end", entries=3),
+        fed("b", 2, "dir d", "file x", "bytes 616263", "close", "close", "file y", f"bytes {MANY_BYTES}", "close", "end"),
         forget(0),
         PRUNE,
-        fed("c", 3, "file x", "bytes 6162", "bytes 63", "close", "end", entries=1),
+        fed("c", 3, "file x", "bytes 6162", "bytes 63", "close", "end"),
         restore(1),
         CHECK,
     ],
 }
+
+# Those that were worked out by hand, line by line, with the script and what it prints.
+BY_HAND = {
+    "two hosts with equal files": (WORKED[0], [backup("a", 1, "file x 616263"), backup("b", 1, "file x 616263")]),
+    "a prune that makes a pack again": (WORKED[1], [
+        backup("a", 1, "file x 616263", "file y 6465"),
+        backup("a", 2, "file x 616263"),
+        forget(0),
+        prune_until("put-index", *CRASHED),
+        PRUNE,
+        restore(1),
+    ]),
+    "a deletion that comes after its pack was made again": (WORKED[2], [
+        backup("a", 1, "file x 616263"),
+        forget(0),
+        prune_until("delete-pack", "unlock {1}"),
+        runs(backup("a", 2, "file x 616263"), "finish {0}", "late 2"),
+        restore(3),
+    ]),
+    "an old snapshot that comes after an upgrade": (UPGRADED, [
+        old(backup("a", 1, "file x 616263")),
+        runs(old(backup("b", 1, "file x 616263")), "until {0} put-snapshot"),
+        runs(UPGRADE, "finish {0}", "unlock 2"),
+        UPGRADE,
+        runs(backup("c", 2, "file x 616263"), "finish {0}", "late 1", "finish 1"),
+        old(restore(4)),
+        restore(0),
+        restore(4),
+    ]),
+}
+WORLDS |= {name: world for name, (_, world) in BY_HAND.items()}
 
 
 def play(program, lines):
@@ -226,12 +298,24 @@ def stored(world, printed):
 
 
 def ending(world, kept):
-    """All locks are removed; a check; and a restore of each snapshot that has to be there."""
+    """All locks are removed; a check; a restore of each snapshot that has to be there; and a backup of the same entries."""
     checker = len(world)
     lines = [f"unlock {token}" for token in range(1, len(world) + 1)] + ["start check", f"finish {checker}"]
     for place, (number, _) in enumerate(kept):
-        lines += [f"start restore {number}", f"finish {checker + 1 + place}"]
+        lines += [f"start restore {number}", f"finish {checker + 1 + 2 * place}"]
+        lines += [*world[number].again, f"finish {checker + 2 + 2 * place}"]
     return lines
+
+
+def restored_by(player, client):
+    """The lines of the entries that a client of the reference restored."""
+    entries = []
+    for word, what in player.seats[client].client.given:
+        if word == "piece":
+            entries[-1][1] += what.hex()
+        elif word in ("dir", "file"):
+            entries.append([f"{word} {what}", ""])
+    return sorted(line + (f" {digits or '-'}" if line.startswith("file ") else "") for line, digits in entries)
 
 
 def faults_of(world, kept, printed):
@@ -240,8 +324,21 @@ def faults_of(world, kept, printed):
     if not (told_of(printed, checker) or "").startswith("clean "):
         yield f"check {told_of(printed, checker)}"
     for place, (number, entries) in enumerate(kept):
-        if told_of(printed, checker + 1 + place) != f"complete {entries}":
-            yield f"restore of client {number}'s snapshot {told_of(printed, checker + 1 + place)}"
+        restored, again = (told_of(printed, checker + 1 + 2 * place + one) for one in (0, 1))
+        if restored != f"complete {entries}":
+            yield f"restore of client {number}'s snapshot {restored}"
+        if again != "stored 0 0":
+            yield f"the same backup as client {number}'s {again}"
+
+
+def faults_by_reference(world, kept, lines, printed):
+    """What the reference prints otherwise, and which bytes it restores otherwise."""
+    player = Player()
+    if "".join(player.run(place, line.encode()) for place, line in enumerate(lines, 1)).splitlines() != printed:
+        yield "the reference prints something else"
+    for place, (number, _) in enumerate(kept):
+        if restored_by(player, len(world) + 1 + 2 * place) != sorted(world[number].again[:-1]):
+            yield f"the restore of client {number}'s snapshot gives other bytes"
 
 
 def look_at(program, world, lines, reads):
@@ -250,6 +347,7 @@ def look_at(program, world, lines, reads):
     whole = [*lines, *ending(world, kept)]
     printed = play(program, [*whole, "report"])
     yield from faults_of(world, kept, printed)
+    yield from faults_by_reference(world, kept, [*whole, "report"], printed)
     if play(program, [*whole, "replay", "report"]) != printed:
         yield "another report when all requests come once more"
     opened = [each for line in whole for each in ("restart", line)]
@@ -276,13 +374,28 @@ def sweep(program, name, world, every=1):
     return tried, wrong
 
 
+def by_hand(program, name):
+    """What is wrong with a world that was worked out by hand, if nothing disturbs it."""
+    (_, text, prints), world = BY_HAND[name]
+    lines = [*lines_before(world, len(world) - 1), *world[-1].run(len(world) - 1), "report"]
+    if lines != text.splitlines():
+        yield "another script"
+    if play(program, lines) != prints.splitlines():
+        yield "it prints something else"
+
+
 def main():
     parser = argparse.ArgumentParser(description="Disturbs each step of each client in turn")
     parser.add_argument("--every", type=int, default=1, metavar="N", help="only each N-th disturbance")
     parser.add_argument("program", nargs="?", default=str(PROGRAM), metavar="VAULT")
     given, failed = parser.parse_args(), False
+    program = str(Path(given.program).resolve())
+    for name in BY_HAND:
+        for fault in by_hand(program, name):
+            print(f"{name}: {fault}")
+            failed = True
     for name, world in WORLDS.items():
-        tried, wrong = sweep(str(Path(given.program).resolve()), name, world, given.every)
+        tried, wrong = sweep(program, name, world, given.every)
         print(*wrong, f"{name}: {tried} tried, {len(wrong)} wrong", sep="\n")
         failed = failed or bool(wrong)
     sys.exit(failed)

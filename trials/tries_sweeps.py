@@ -34,6 +34,12 @@ for each, clients in sweep.WORLDS.items():
     swept(each, clients)
 
 
+@trial
+def worlds_by_hand_are_the_worked_scripts():
+    for name in sweep.BY_HAND:
+        same(list(sweep.by_hand(OPTIONS.program, name)), [], name)
+
+
 @dataclass
 class Run:
     """A store with its server, and clients that run one after another; one of them is disturbed at one of its requests."""

@@ -123,12 +123,12 @@ def config_read(upto):
 
 
 class Client:
-    """One job of one client: what is pending, how it ended, what the last reply gave out. An old client knows version 1 alone."""
+    """One job of one client: what is pending, how it ended, what the last reply gave out, and what all did. An old client knows version 1 alone."""
 
     def __init__(self, job, instance, host, time, old=False):
         self.job, self.instance, self.host, self.time = job, instance, host, time
         self.upto = 1 if old else GREATEST_VERSION
-        self.sequence, self.pending, self.outcome, self.emitted = 0, None, None, []
+        self.sequence, self.pending, self.outcome, self.emitted, self.given = 0, None, None, [], []
         self.steps = self.run()
         self.send(next(self.steps))
 
@@ -145,6 +145,7 @@ class Client:
             self.send(self.steps.send(reply.what))
         except StopIteration:
             self.pending = None
+        self.given += self.emitted
 
     def exchanges(self, store):
         """Brings it to its end at a store: what it asks, and what is said to it."""
@@ -156,11 +157,8 @@ class Client:
 
     def finish(self, store):
         """Brings it to its end at a store: how many exchanges that took, and what it gave out."""
-        count, given = 0, []
-        for _ in self.exchanges(store):
-            count += 1
-            given += self.emitted
-        return count, given
+        before = len(self.given)
+        return sum(1 for _ in self.exchanges(store)), self.given[before:]
 
     def run(self):
         """All that it asks, from its ticket to its unlock."""
