@@ -68,6 +68,13 @@ def uneven(script):
         script.heading(f"check: a tree of its name, {len(ROOT)} bytes, at a place of {length}")
         script.check(says(*OPENED, ("names", False, [name_of(snapshot)]), ("bytes", snapshot), ("names", False, [name_of(index)]),
                           ("bytes", index), ("names", False, [name_of(pack)]), ("bytes", pack), ("bytes", ROOT), DONE))
+    above = tree_text([dir_node("d", name_of(ROOT)), dir_node("e", name_of(b"gone")), file_node("f", 3, [name_of(b"lost")])])
+    pack, facts = pack_of([("content", ABC), ("tree", ROOT), ("tree", above)])
+    snapshot = snapshot_text("a", 5, 1, name_of(above))
+    index = index_text([(name_of(pack), [*facts[:2], (*facts[2][:3], len(above) - 1)])])
+    script.heading("check: what is below a tree of another length than its place's")
+    script.check(says(*OPENED, ("names", False, [name_of(snapshot)]), ("bytes", snapshot), ("names", False, [name_of(index)]),
+                      ("bytes", index), ("names", False, [name_of(pack)]), ("bytes", pack), ("bytes", above), ("bytes", ROOT), DONE))
 
 
 def worked(script):

@@ -3,7 +3,7 @@
 from jobs import DEEPEST, End, Outcome, listed, refusal
 from prunes import by_pack, least_places
 from naming import name_of
-from texts import OtherVersion, Unreadable, goes_on, read_index, read_next, read_pack, read_snapshot, read_tree, want
+from texts import OtherVersion, Unreadable, goes_on, read_index, read_next, read_pack, read_snapshot, read_tree
 
 
 class Fault(Exception):
@@ -58,19 +58,16 @@ class Trees:
         return sum(self.places[key][2] for key in keys) if all(key in self.places for key in keys) else None
 
     def read(self, name):
-        """Reads a tree. Where a file in it has another size than its blobs the tree is at fault, and its nodes count."""
+        """Reads a tree. If it has another length than its place, or a file in it another size than its blobs, the tree is at fault, and its nodes
+        count."""
         if ("tree", name) not in self.places:
             raise Fault("unindexed")
         place = self.places["tree", name]
         data = yield from brought(("range", *place), (5, 8))
-
-        def read_whole(data):
-            want(len(data) == place[2])
-            return read_tree(data)
-        nodes = read_as(name, data, read_whole)
+        nodes = read_as(name, data, read_tree)
         self.nodes[name], self.texts[name] = nodes, data
         files = [node for node in nodes if node["type"] == "file"]
-        if any(self.size(node) not in (None, node["size"]) for node in files):
+        if len(data) != place[2] or any(self.size(node) not in (None, node["size"]) for node in files):
             raise Fault("unreadable")
 
     def look(self, name):

@@ -1,5 +1,5 @@
 -- One thing is found of each.
-use Rattle.std.proofs.Common.{arith, ◌≡◌, ◌≢◌, ◌∷◌, [], ℕ, List, Option, Some, None, map, refl, sym, ap, subst, inl, inr, ◌∙◌, ◌⊎◌, false, Contains}
+use Rattle.std.proofs.Common.{length, arith, ◌≡◌, ◌≢◌, ◌∷◌, [], ℕ, List, Option, Some, None, map, refl, sym, ap, subst, inl, inr, ◌∙◌, ◌⊎◌, false, Contains}
 use Rattle.std.proofs.lemmas.Cmp.{tied_itself}
 use Rattle.std.specs.Ordering.{ordering_then, ordering_reverse, is_gt}
 use Rattle.std.specs.declared.cmp.Ordering.{Ordering}
@@ -20,6 +20,7 @@ use Rattle.repo_index.proofs.OneLemmas.{index_texts_one}
 use Rattle.repo_index.proofs.OrderLemmas.{place_first_exact}
 use Rattle.repo_store.specs.Pages.{Has, NamesAscend}
 use Rattle.repo_tree.specs.SnapshotText.{HasSnapshot, IsSnapshotText, SnapshotFault}
+use Rattle.repo_tree.specs.TreeText.{IsTreeText}
 use Rattle.repo_tree.specs.declared.faults.TextError.{TextError}
 use Rattle.repo_tree.specs.declared.snapshots.Snapshot.{Snapshot}
 use Rattle.repo_tree.specs.declared.nodes.Node.{Node}
@@ -196,17 +197,18 @@ module _ (answers : Gathered) where
 
   abbrev InTree : Place → Name → Option FaultKind → List ℕ → Type 0
   InTree place n None x = (nodes : List Node) × IsTreeAt place x nodes × IsWellTree answers n x nodes
-  InTree place n (Some FaultKind.Unreadable) x = ((nodes : List Node) → ¬ IsTreeAt place x nodes) ⊎ ((nodes : List Node) × IsTreeAt place x nodes × IsIllTree answers n x nodes)
+  InTree place n (Some FaultKind.Unreadable) x = ((nodes : List Node) → ¬ IsTreeText x nodes) ⊎ ((nodes : List Node) × IsTreeText x nodes × ((length x ≢ place.length) ⊎ IsIllTree answers n x nodes))
   InTree place n (Some FaultKind.Missing) x = ⊥
   InTree place n (Some FaultKind.Name) x = ⊥
   InTree place n (Some FaultKind.Place) x = ⊥
   InTree place n (Some FaultKind.Unindexed) x = ⊥
 
   tree_not_both : (place : Place) (n : Name) (x : List ℕ) → InTree place n None x → InTree place n (Some FaultKind.Unreadable) x → ⊥
-  tree_not_both place n x well (inl none) = none well.0 well.1
-  tree_not_both place n x well (inr ill) =
-      let same : ill.0 ≡ well.0 = tree_texts_one x ill.0 well.0 ill.1.reads well.1.reads in
-      well_not_ill n x well.0 well.2 (subst (λ ns. IsIllTree answers n x ns) same ill.2)
+  tree_not_both place n x well (inl none) = none well.0 well.1.reads
+  tree_not_both place n x well (inr (nodes, reads, inl uneven)) = uneven well.1.len
+  tree_not_both place n x well (inr (nodes, reads, inr ill)) =
+      let same : nodes ≡ well.0 = tree_texts_one x nodes well.0 reads well.1.reads in
+      well_not_ill n x well.0 well.2 (subst (λ ns. IsIllTree answers n x ns) same ill)
 
   in_tree_once : (place : Place) (n : Name) (x : List ℕ) (f g : Option FaultKind) → InTree place n f x → InTree place n g x → f ≡ g
   in_tree_once place n x None None a b = refl

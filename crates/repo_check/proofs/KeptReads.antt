@@ -1,5 +1,5 @@
 -- What is kept of the trees that came is what they say.
-use Rattle.std.proofs.Common.{◌≡◌, ℕ, Bool, true, false, List, length, Option, Some, None, refl, sym, ap, subst, ◌∙◌, Contains}
+use Rattle.std.proofs.Common.{◌≡◌, ℕ, Bool, true, false, List, Option, Some, None, refl, sym, ap, subst, ◌∙◌, Contains}
 use Rattle.std.proofs.lemmas.Option.{same_Some, none-some}
 use Rattle.repo_name.specs.Naming as naming
 use Rattle.repo_name.specs.declared.kinds.BlobKind.TheVariants.{Tree}
@@ -26,8 +26,7 @@ use Rattle.repo_check.specs.Measures.{IsReadAs}
 use Rattle.repo_check.specs.Surveys.{RoundsView}
 use Rattle.repo_check.specs.Walks.{IsTold, WalkView}
 use Rattle.repo_check.specs.declared.keeping.Kept.{Kept}
-use Rattle.repo_check.proofs.Gathered.{HasCome, answers_of, came_as, least_of, lies_of}
-use Rattle.repo_check.proofs.Measuring.{least_one}
+use Rattle.repo_check.proofs.Gathered.{HasCome, answers_of, came_as, lies_of}
 
 -- ---- what a part's text says
 
@@ -95,9 +94,9 @@ module _ (rounds : RoundsView) (walk : WalkView) (es : Trace) (s : HasCome round
   read_kept a place kept right c read least = record {
     text = read.bytes;
     nodes = read.nodes;
-    among = (refl, (a.name, place, came_as s.answers a read.bytes c read.has, lies_of rounds walk es s Tree a.name place least, read.tree.len));
+    among = (refl, (a.name, place, came_as s.answers a read.bytes c read.has, lies_of rounds walk es s Tree a.name place least));
     named = read.has.1;
-    reads = read.tree.reads;
+    reads = read.tree;
     lead = read.lead;
     says = read.says;
     ends = read.ends;
@@ -111,17 +110,17 @@ module _ (rounds : RoundsView) (walk : WalkView) (es : Trace) (s : HasCome round
       let read = told_read walk.known.facts seen.place a (walk.known.kept a.name) (walk.known.faults a.name) seen.told kept (ap walk.known.kept found.2 ∙ is) in
       subst (λ m. IsKept m kept) found.2 (read_kept a seen.place kept read.0 found.1 read.1 seen.least)
 
-  told_tree : (n : Name) (x : List ℕ) (place : Place) (nodes : List Node) (l : Option Kept) (f : Option FaultKind) → naming.name x ≡ n → length x ≡ place.length → IsTreeText x nodes
+  told_tree : (n : Name) (x : List ℕ) (place : Place) (nodes : List Node) (l : Option Kept) (f : Option FaultKind) → naming.name x ≡ n → IsTreeText x nodes
       → IsTold walk.known.facts place (record { name = n; bytes = Some x }) l f → (kept : Kept) × (l ≡ Some kept)
-  told_tree n x place nodes (Some kept) f named len reads told = (kept, refl)
-  told_tree n x place nodes None None named len reads told = absurd told
-  told_tree n x place nodes None (Some FaultKind.Missing) named len reads told = absurd (cc told)
-  told_tree n x place nodes None (Some FaultKind.Name) named len reads told = absurd (told.2 (ap naming.name (same_Some told.0 x (sym told.1)) ∙ named))
-  told_tree n x place nodes None (Some FaultKind.Unreadable) named len reads told =
+  told_tree n x place nodes (Some kept) f named reads told = (kept, refl)
+  told_tree n x place nodes None None named reads told = absurd told
+  told_tree n x place nodes None (Some FaultKind.Missing) named reads told = absurd (cc told)
+  told_tree n x place nodes None (Some FaultKind.Name) named reads told = absurd (told.2 (ap naming.name (same_Some told.0 x (sym told.1)) ∙ named))
+  told_tree n x place nodes None (Some FaultKind.Unreadable) named reads told =
       let y : x ≡ told.0 = same_Some x told.0 told.1.0 in
-      absurd (told.2 nodes (record { len = ap length (sym y) ∙ len; reads = subst (λ z. IsTreeText z nodes) y reads }))
-  told_tree n x place nodes None (Some FaultKind.Place) named len reads told = absurd told
-  told_tree n x place nodes None (Some FaultKind.Unindexed) named len reads told = absurd told
+      absurd (told.2 nodes (subst (λ z. IsTreeText z nodes) y reads))
+  told_tree n x place nodes None (Some FaultKind.Place) named reads told = absurd told
+  told_tree n x place nodes None (Some FaultKind.Unindexed) named reads told = absurd told
 
   -- what came under a name is what is kept of it
   one_came : (a b : Answer) (x y : List ℕ) → Contains s.answers a → Contains s.answers b → a.name ≡ b.name → a.bytes ≡ Some x → b.bytes ≡ Some y → x ≡ y
@@ -134,8 +133,7 @@ module _ (rounds : RoundsView) (walk : WalkView) (es : Trace) (s : HasCome round
       let place = h.among.1.1 in
       let came = h.among.1.2 in
       let seen = s.reads.seen.each (record { name = n; bytes = Some h.text }) came.among in
-      let same : place ≡ seen.place = least_one walk.known.facts Tree n place seen.place (least_of rounds walk es s Tree n place h.among.1.3) seen.least in
-      let told = told_tree n h.text seen.place nodes (walk.known.kept n) (walk.known.faults n) came.named (h.among.1.4 ∙ ap (λ (p : Place). p.length) same) h.reads seen.told in (
+      let told = told_tree n h.text seen.place nodes (walk.known.kept n) (walk.known.faults n) came.named h.reads seen.told in (
         told.0,
         ap walk.known.kept (sym h.named ∙ came.named) ∙ told.1,
         λ k.

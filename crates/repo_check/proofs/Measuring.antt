@@ -14,7 +14,7 @@ use Rattle.repo_tree.specs.declared.nodes.NodeKind.{NodeKind}
 use Rattle.repo_name.proofs.Containing.{contained_or}
 use Rattle.repo_check.specs.Answers.{Gathered, LiesAt}
 use Rattle.repo_check.specs.Findings.{Measure, IsMeasured, IsMismeasured}
-use Rattle.repo_check.specs.Measures.{IsLost, Measures, SuitsSize, IsUnsuited, AreGivenFacts, Judges}
+use Rattle.repo_check.specs.Measures.{IsLost, Measures, SuitsSize, IsUnsuited, AreGivenFacts, HasLengths, Judges, LacksLengths}
 use Rattle.repo_check.proofs.Finding.{place_one}
 
 -- ---- what is left of a list
@@ -97,9 +97,10 @@ module _ (answers : Gathered) (facts : List Fact) (given : AreGivenFacts answers
   unsuited (NodeKind.Dir subtree) h = h
 
 -- what is judged by facts holds of all that was given as they say
-pub judged : (facts : List Fact) (nodes : List Node) (right : Bool) → (IsTrue right → (node : Node) → Contains nodes node → SuitsSize facts node.what) → (IsFalse right → (node : Node) × Contains nodes node × IsUnsuited facts node.what)
-    → (answers : Gathered) → AreGivenFacts answers facts → Judges answers nodes right
-judged facts nodes right all some answers given = record {
-  well = λ is node c. suited answers facts given node.what (all is node c);
-  ill = λ is. (let s = some is in (s.0, s.1, unsuited answers facts given s.0.what s.2));
+pub judged : (facts : List Fact) (place : Place) (x : List ℕ) (nodes : List Node) (right : Bool) → (IsTrue right → HasLengths facts place x nodes) → (IsFalse right → LacksLengths facts place x nodes)
+    → (answers : Gathered) → AreGivenFacts answers facts → Judges answers place x nodes right
+judged facts place x nodes right all some answers given = record {
+  len = λ is. (all is).len;
+  well = λ is node c. suited answers facts given node.what ((all is).sizes node c);
+  ill = λ is. elim (some is) [ inl uneven ↦ inl uneven | inr s ↦ inr (s.0, s.1, unsuited answers facts given s.0.what s.2) ];
 }

@@ -111,7 +111,7 @@ module _ (answers : Gathered) (objects : Objects) (sound : IsSound objects) (apa
       (l.blob.bytes, ranged a c place at l.pack l.blob.bytes l.here l.blob.stands, l.held, l.blob.named, l.blob.len)
 
   grows : (k : BlobKind) (x : List ℕ) → T k x → H k x
-  grows k x (is, (n, place, tree, at, len)) =
+  grows k x (is, (n, place, tree, at)) =
       let a : Answer = record { name = n; bytes = Some x } in
       let h = tree_held a place tree.among at in
       let same : h.0 ≡ x = same_Some h.0 x (sym h.1) in
@@ -225,12 +225,13 @@ module _ (answers : Gathered) (objects : Objects) (sound : IsSound objects) (apa
       by FaultKind.Name h = h.2 (ap naming.name (same_Some h.0 held.0 (sym h.1 ∙ held.1)) ∙ held.3)
       by FaultKind.Unreadable (x, bytes, named, inl none) =
           let same : held.0 ≡ x = same_Some held.0 x (sym held.1 ∙ bytes) in
-          let broken : IsBroken need.0 H need.1 path a.name = inl (held.0, held.2, held.3, no_text need.0 held.0 (λ nodes text. none nodes (record { len = ap length (sym same) ∙ held.4; reads = subst (λ y. IsTreeText y nodes) same text }))) in
+          let broken : IsBroken need.0 H need.1 path a.name = inl (held.0, held.2, held.3, no_text need.0 held.0 (λ nodes text. none nodes (subst (λ y. IsTreeText y nodes) same text))) in
           unbroken need.0 H apart need.1 need.2.entries path a.name need.2.spells under broken
-      by FaultKind.Unreadable (x, bytes, named, inr (nodes, tree, ill)) =
+      by FaultKind.Unreadable (x, bytes, named, inr (nodes, tree, inl uneven)) = uneven (ap length (sym (same_Some held.0 x (sym held.1 ∙ bytes))) ∙ held.4)
+      by FaultKind.Unreadable (x, bytes, named, inr (nodes, tree, inr ill)) =
           let same : held.0 ≡ x = same_Some held.0 x (sym held.1 ∙ bytes) in
           let there : H Tree x = subst (λ y. H Tree y) same held.2 in
-          let lists : IsTree H a.name nodes = record { text = x; among = there; named = named; reads = tree.reads } in
+          let lists : IsTree H a.name nodes = record { text = x; among = there; named = named; reads = tree } in
           ill_not a.name x nodes there named lists need.0 need.1 need.2 path under ill
       by FaultKind.Place h = absurd h
       by FaultKind.Unindexed h = absurd h

@@ -109,13 +109,13 @@ module _ (answers : Gathered) (objects : Objects) (well : AreWell answers) (are 
 
   -- a tree that came is held
   pub grows : (k : BlobKind) (x : List ℕ) → T k x → H k x
-  grows k x (is, (n, place, tree, lies, len)) =
+  grows k x (is, (n, place, tree, lies)) =
       let h = held_at (fact_of Tree n place) lies.given in
       let same : h.bytes ≡ x = apart h.bytes x h.spoken (of_tree n tree.among) (h.named ∙ sym tree.named) in
       subst (λ (j : BlobKind). H j x) (sym is) (subst (λ y. H Tree y) same h.held)
 
   agree : Agree T T
-  agree k x y (is, (n, place, tree, lies, len)) (so, (m, spot, other, at, size)) name = apart x y (of_tree n tree.among) (of_tree m other.among) name
+  agree k x y (is, (n, place, tree, lies)) (so, (m, spot, other, at)) name = apart x y (of_tree n tree.among) (of_tree m other.among) name
 
   pub record WellAt (n : Name) : Type 0 where
     pub nodes : List Node
@@ -132,7 +132,7 @@ module _ (answers : Gathered) (objects : Objects) (well : AreWell answers) (are 
         let named : naming.name x ≡ n = tree.3 ∙ is in
         record {
           nodes = tree.1;
-          tree = record { text = x; among = (refl, (n, place, record { among = mine; named = named }, lies, tree.4.len)); named = named; reads = tree.4.reads };
+          tree = record { text = x; among = (refl, (n, place, record { among = mine; named = named }, lies)); named = named; reads = tree.4.reads };
           fit = subst (λ m. IsWellTree answers m x tree.1) is tree.5;
         })
   ]

@@ -42,7 +42,8 @@ faulty_is answers place a FaultKind.Unindexed h = h
 
 -- sizes that are wrong
 wrong_is : (answers : Gathered) (facts : List Fact) (place : Place) (a : Answer) (kept : Kept) → AreGivenFacts answers facts → IsReadAs facts place a kept false → TreeIs answers place a (Some FaultKind.Unreadable)
-wrong_is answers facts place a kept given r = (r.bytes, r.has.0, r.has.1, inr (r.nodes, r.tree, inr (inl ((r.judged answers given).ill refl))))
+wrong_is answers facts place a kept given r =
+    (r.bytes, r.has.0, r.has.1, inr (r.nodes, r.tree, elim ((r.judged answers given).ill refl) [ inl uneven ↦ inl uneven | inr sizes ↦ inr (inr (inl sizes)) ]))
 
 bare_or : (b : Bool) → (b ≡ true) ⊎ (b ≡ false)
 bare_or true = inl refl
@@ -79,7 +80,7 @@ module _ (rounds : RoundsView) (walk : WalkView) (es : Trace) (s : IsSurveyed ro
 
   module _ (place : Place) (a : Answer) (kept : Kept) (is : walk.known.kept a.name ≡ Some kept) (r : IsReadAs walk.known.facts place a kept true) where
     ill : IsIllTree A a.name r.bytes r.nodes → TreeIs A place a (Some FaultKind.Unreadable)
-    ill h = (r.bytes, r.has.0, r.has.1, inr (r.nodes, r.tree, h))
+    ill h = (r.bytes, r.has.0, r.has.1, inr (r.nodes, r.tree, inr h))
 
     own : (v : Visit) (k : Kept) → v.tree ≡ a.name → walk.known.kept v.tree ≡ Some k → k ≡ kept
     own v k same at = same_Some k kept (sym at ∙ ap walk.known.kept same ∙ is)
@@ -121,7 +122,7 @@ module _ (rounds : RoundsView) (walk : WalkView) (es : Trace) (s : IsSurveyed ro
           sound (v.0, v.1, inr (one.kept, two.kept, ap walk.known.kept v.2 ∙ one.is, goes, two.is, (two.right, stands)))
 
       well : TreeIs A place a None
-      well = (r.bytes, r.nodes, r.has.0, r.has.1, r.tree, record { bare = bare; measured = (r.judged A given).well refl; part = part; onward = onward })
+      well = (r.bytes, r.nodes, r.has.0, r.has.1, record { len = (r.judged A given).len refl; reads = r.tree }, record { bare = bare; measured = (r.judged A given).well refl; part = part; onward = onward })
 
     -- by whether it breaks its directory
     right_is : (broken : Bool) → (IsTrue broken ↔ IsGiven Gift.Broken walk.known.kept visits a.name) → TreeIs A place a (tree_fault None (Some kept) broken)

@@ -1,5 +1,5 @@
 -- What a tree's text comes to, by the facts that are known.
-use Rattle.std.specs.Prelude.{◌≡◌, ◌≢◌, ◌+◌, ◌⊎◌, ◌↔◌, ◌∷◌, [], ⊤, ℕ, Bool, IsTrue, IsFalse, List, Some, None, Contains}
+use Rattle.std.specs.Prelude.{◌≡◌, ◌≢◌, ◌+◌, ◌⊎◌, ◌↔◌, ◌∷◌, [], ⊤, ℕ, Bool, IsTrue, IsFalse, List, length, Some, None, Contains}
 use Rattle.repo_name.specs.declared.kinds.BlobKind.TheVariants.{Content}
 use Rattle.repo_name.specs.Naming as naming
 use Rattle.repo_name.specs.declared.names.Name.{Name}
@@ -17,7 +17,8 @@ use Rattle.repo_session.specs.Blobs.{range_of}
 use Rattle.repo_session.specs.declared.outcomes.FaultKind.{FaultKind}
 use Rattle.repo_check.specs.Answers.{Answer, Gathered, GivesFact, IsTreeAnswer}
 use Rattle.repo_check.specs.Arrivals.{AnswersBytes, TellsNothing}
-use Rattle.repo_check.specs.Findings.{IsMeasured, IsMismeasured, IsTreeAt}
+use Rattle.repo_tree.specs.TreeText.{IsTreeText}
+use Rattle.repo_check.specs.Findings.{IsMeasured, IsMismeasured}
 use Rattle.repo_check.specs.declared.keeping.Kept.{Kept}
 use Rattle.repo_check.specs.declared.trees.TreeLook.{TreeLook}
 
@@ -44,31 +45,41 @@ abbrev pub IsUnsuited : List Fact → NodeKind → Type 0
 IsUnsuited facts (NodeKind.File size content) = (sum : ℕ) × Measures facts content sum × (sum ≢ size)
 IsUnsuited facts (NodeKind.Dir subtree) = ⊥
 
+-- a tree of these bytes and nodes has the length of its place, and its files have their sizes
+pub record HasLengths (facts : List Fact) (place : Place) (x : List ℕ) (nodes : List Node) : Type 0 where
+  pub len : length x ≡ place.length
+  pub sizes : (node : Node) → Contains nodes node → SuitsSize facts node.what
+
+-- it has another, or one of its files has another size
+abbrev pub LacksLengths : List Fact → Place → List ℕ → List Node → Type 0
+LacksLengths facts place x nodes = (length x ≢ place.length) ⊎ ((node : Node) × Contains nodes node × IsUnsuited facts node.what)
+
 -- the facts are those that were given
 abbrev pub AreGivenFacts : Gathered → List Fact → Type 0
 AreGivenFacts answers facts = (fact : Fact) → Contains facts fact ↔ GivesFact answers fact
 
--- whether the sizes of the files among some nodes are right
-pub record Judges (answers : Gathered) (nodes : List Node) (right : Bool) : Type 0 where
+-- whether the lengths of a tree are right: that of its bytes is the place's, and the files among its nodes have their sizes
+pub record Judges (answers : Gathered) (place : Place) (x : List ℕ) (nodes : List Node) (right : Bool) : Type 0 where
+  pub len : IsTrue right → length x ≡ place.length
   pub well : IsTrue right → (node : Node) → Contains nodes node → IsMeasured answers node.what
-  pub ill : IsFalse right → (node : Node) × Contains nodes node × IsMismeasured answers node.what
+  pub ill : IsFalse right → (length x ≢ place.length) ⊎ ((node : Node) × Contains nodes node × IsMismeasured answers node.what)
 
--- it is a tree of which this is kept, with sizes that are right or aren't
+-- it is a tree of which this is kept, with lengths that are right or aren't
 pub record IsReadAs (facts : List Fact) (place : Place) (a : Answer) (kept : Kept) (right : Bool) : Type 0 where
   pub bytes : List ℕ
   pub nodes : List Node
   pub has : AnswersBytes a bytes
-  pub tree : IsTreeAt place bytes nodes
+  pub tree : IsTreeText bytes nodes
   pub lead : LeadTo nodes kept.links
   pub says : SaysNext bytes nodes kept.joint.next
   pub ends : HasEnds nodes kept.joint.ends
-  pub judged : (answers : Gathered) → AreGivenFacts answers facts → Judges answers nodes right
+  pub judged : (answers : Gathered) → AreGivenFacts answers facts → Judges answers place bytes nodes right
 
 -- it is at fault by itself, whatever else came: one whose bytes are a tree's text isn't
 abbrev pub IsFaultyTree : Place → Answer → FaultKind → Type 0
 IsFaultyTree place a FaultKind.Missing = a.bytes ≡ None
 IsFaultyTree place a FaultKind.Name = (x : List ℕ) × (a.bytes ≡ Some x) × (naming.name x ≢ a.name)
-IsFaultyTree place a FaultKind.Unreadable = (x : List ℕ) × AnswersBytes a x × ((nodes : List Node) → ¬ IsTreeAt place x nodes)
+IsFaultyTree place a FaultKind.Unreadable = (x : List ℕ) × AnswersBytes a x × ((nodes : List Node) → ¬ IsTreeText x nodes)
 IsFaultyTree place a FaultKind.Place = ⊥
 IsFaultyTree place a FaultKind.Unindexed = ⊥
 

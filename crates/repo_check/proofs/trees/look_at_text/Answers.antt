@@ -25,16 +25,16 @@ returns-in_ok-kept-in-Ok c =
       record {
         bytes = x;
         nodes = nodes;
-        has = (refl, c.requires.0);
-        tree = record { len = c.requires.1; reads = says_tree x nodes next says };
+        has = (refl, c.requires);
+        tree = says_tree x nodes next says;
         lead = keeps.lead;
         says = subst (λ m. SaysNext x nodes m) (sym keeps.joint.next_is) says;
         ends = keeps.joint.ends;
-        judged = let P : List Node → Type 0 = λ ns. (answers : Gathered) → AreGivenFacts answers c.args.lookup.now → Judges answers ns c.all_suit-right.result in
-            subst P c.as_slice-in-Ok.ensures.value (judged c.args.lookup.now c.as_slice-in-Ok.result.now c.all_suit-right.result c.all_suit-right.ensures.all c.all_suit-right.ensures.some);
+        judged = let P : List Node → Type 0 = λ ns. (answers : Gathered) → AreGivenFacts answers c.args.lookup.now → Judges answers c.args.fact.place x ns c.has_lengths-right.result in
+            subst P c.as_slice-in-Ok.ensures.value (judged c.args.lookup.now c.args.fact.place x c.as_slice-in-Ok.result.now c.has_lengths-right.result c.has_lengths-right.ensures.has c.has_lengths-right.ensures.lacks);
       },
     )
 
 pub returns-in_ok-check_fault-in-Err : goal.returns-in_ok-check_fault-in-Err
 returns-in_ok-check_fault-in-Err c =
-    tree_unread c.args.fact c.args.bytes.now (Say.Bytes c.args.bytes.now) refl c.requires.0 (λ nodes tree. c.in-Err.ensures.none c.in_ok-check_fault-in-Err.ensures.fault nodes tree.reads)
+    tree_unread c.args.fact c.args.bytes.now (Say.Bytes c.args.bytes.now) refl c.requires (λ nodes tree. c.in-Err.ensures.none c.in_ok-check_fault-in-Err.ensures.fault nodes tree)
