@@ -6,10 +6,10 @@ use Rattle.std.proofs.lemmas.Cmp.{tied_itself}
 use Rattle.std.proofs.lemmas.Map.Views.{btree_set_contains_iff}
 use Rattle.std.proofs.lemmas.List.{take_more}
 use Rattle.std.proofs.lemmas.List.Elements.{Contains-append_left, Contains-append_right, Contains-append_cases, Contains-push, Contains-push_cases}
-use Rattle.std.specs.Ordering.{ordering_then, is_gt, is_eq}
+use Rattle.std.specs.Ordering.{ordering_then, ordering_reverse, is_gt, is_eq}
 use Rattle.std.specs.declared.cmp.Ordering.{Ordering}
 use Rattle.std.specs.declared.cmp.Ordering.TheVariants.{Less, Equal, Greater}
-use Rattle.std.specs.declared.ops.Bound.TheVariants.{Included}
+use Rattle.std.specs.declared.ops.Bound.TheVariants.{Included, Excluded}
 use Rattle.std.specs.BTreeMap.{is_at}
 use Rattle.std.specs.BTreeMap.Range.{IsLeBy, IsInRange}
 use Rattle.std.specs.BTreeSet.{BTreeSet, contains, Updates, IsKeyRangeOf}
@@ -17,10 +17,10 @@ use Rattle.repo_name.specs.Naming.{name_cmp}
 use Rattle.repo_name.specs.declared.names.Name.{Name}
 use Rattle.repo_name.specs.declared.kinds.BlobKind.{BlobKind}
 use Rattle.repo_pack.specs.declared.places.Place.{Place}
-use Rattle.repo_index.specs.IndexText.{fact_of, IsFact, facts_in}
-use Rattle.repo_index.specs.Order.{place_cmp, kind_cmp, name_first, IsAtMost, names_total, kinds_total, name_first_total}
+use Rattle.repo_index.specs.IndexText.{fact_of, IsFact, IsPlace, facts_in}
+use Rattle.repo_index.specs.Order.{place_cmp, kind_cmp, name_first, IsAtMost, names_total, kinds_total, places_total, name_first_total}
 use Rattle.repo_index.specs.inner.Bounds.{IsBeforePair, IsAfterPair}
-use Rattle.repo_index.specs.Lookups.{IsLeast, Joins, Grew, HasSame, AreFacts}
+use Rattle.repo_index.specs.Lookups.{IsLeast, IsNextPlace, IsLastPlace, Joins, Grew, HasSame, AreFacts}
 use Rattle.repo_index.specs.declared.facts.Fact.{Fact}
 use Rattle.repo_index.specs.declared.facts.PackFacts.{PackFacts}
 use Rattle.repo_index.proofs.OrderLemmas.{then_le, between, same_le, kinds_exact, names_exact, name_first_exact}
@@ -102,6 +102,77 @@ none_is_none by_name kind name lo hi made low high range place h =
     let absent = range.5 refl (fact_of kind name place) inside in
     let e : true ≡ false = sym (has by_name (fact_of kind name place) h) ∙ absent in
     cc e
+
+-- ---- what it finds behind a place
+
+-- what stands behind a fact, and at or before the last of its kind and name, is of that kind and name, and lies behind it
+behind_is : (kind : BlobKind) (name : Name) (place : Place) (hi f : Fact) → IsAfterPair kind name hi
+    → IsInRange name_first (Excluded (fact_of kind name place)) (Included hi) f → (kind ≡ f.kind) × (name ≡ f.name) × (place_cmp place f.place ≡ Less)
+behind_is kind name place hi f high is =
+    let below : is_gt (ordering_then (kind_cmp kind f.kind) (ordering_then (name_cmp name f.name) (place_cmp place f.place))) ≡ false = ap is_gt is.0 in
+    let above : is_gt (ordering_then (kind_cmp f.kind kind) (ordering_then (name_cmp f.name name) (place_cmp f.place hi.place))) ≡ false =
+    subst (λ (n : Name). is_gt (ordering_then (kind_cmp f.kind kind) (ordering_then (name_cmp f.name n) (place_cmp f.place hi.place))) ≡ false) high.name_is
+    (subst (λ (k : BlobKind). is_gt (ordering_then (kind_cmp f.kind k) (ordering_then (name_cmp f.name hi.name) (place_cmp f.place hi.place))) ≡ false) high.kind_is is.1) in
+    let kinds = between (kind_cmp kind f.kind) (kind_cmp f.kind kind) (ordering_then (name_cmp name f.name) (place_cmp place f.place))
+    (ordering_then (name_cmp f.name name) (place_cmp f.place hi.place)) (kinds_total.antisymm f.kind kind) below above in
+    let names = between (name_cmp name f.name) (name_cmp f.name name) (place_cmp place f.place) (place_cmp f.place hi.place)
+    (names_total.antisymm f.name name) kinds.1 kinds.2 in
+    let after_kind : ordering_then Equal (ordering_then (name_cmp name f.name) (place_cmp place f.place)) ≡ Less =
+    subst (λ (o : Ordering). ordering_then o (ordering_then (name_cmp name f.name) (place_cmp place f.place)) ≡ Less) kinds.0 is.0 in
+    let after_name : ordering_then Equal (place_cmp place f.place) ≡ Less =
+    subst (λ (o : Ordering). ordering_then o (place_cmp place f.place) ≡ Less) names.0 after_kind in
+    (kinds_exact kind f.kind kinds.0, names_exact name f.name names.0, after_name)
+
+-- and each fact of that kind and name that lies behind it stands there
+behind_in : (kind : BlobKind) (name : Name) (place other : Place) (hi : Fact) → IsAfterPair kind name hi → IsFact (fact_of kind name other)
+    → place_cmp place other ≡ Less → IsInRange name_first (Excluded (fact_of kind name place)) (Included hi) (fact_of kind name other)
+behind_in kind name place other hi high is less =
+    let e : Equal ≡ kind_cmp kind kind = sym (tied_itself kinds_total kind) in
+    let f : Equal ≡ name_cmp name name = sym (tied_itself names_total name) in
+    let by_name : ordering_then (name_cmp name name) (place_cmp place other) ≡ Less =
+    subst (λ (o : Ordering). ordering_then o (place_cmp place other) ≡ Less) f less in (
+      subst (λ (o : Ordering). ordering_then o (ordering_then (name_cmp name name) (place_cmp place other)) ≡ Less) e by_name,
+      then_le (kind_cmp kind hi.kind) (ordering_then (name_cmp name hi.name) (place_cmp other hi.place)) (same_le kinds_total kind hi.kind (sym high.kind_is))
+          (then_le (name_cmp name hi.name) (place_cmp other hi.place) (same_le names_total name hi.name (sym high.name_is)) (high.after other is.place)),
+    )
+
+-- the bounds stand in order
+pub behind_forward : (fact hi : Fact) → IsPlace fact.place → IsAfterPair fact.kind fact.name hi → IsLeBy name_first fact hi
+behind_forward fact hi is high =
+    then_le (kind_cmp fact.kind hi.kind) (ordering_then (name_cmp fact.name hi.name) (place_cmp fact.place hi.place))
+    (same_le kinds_total fact.kind hi.kind (sym high.kind_is))
+    (then_le (name_cmp fact.name hi.name) (place_cmp fact.place hi.place) (same_le names_total fact.name hi.name (sym high.name_is)) (high.after fact.place is))
+
+-- the first fact between the bounds has the least place behind the other
+pub next_is_first : (by_name : BTreeSet Fact) (fact hi k : Fact) (rest : List Fact) → AreFacts by_name.keys → IsAfterPair fact.kind fact.name hi
+    → IsKeyRangeOf name_first (Excluded fact) (Included hi) by_name (k ∷ rest) → IsNextPlace by_name.keys fact.kind fact.name fact.place k.place
+next_is_first by_name fact hi k rest made high range =
+    let pair = behind_is fact.kind fact.name fact.place hi k high range.1.0 in
+    let is : k ≡ fact_of fact.kind fact.name k.place = λ i. record { kind = sym pair.0 i; name = sym pair.1 i; place = k.place } in
+    record {
+      among = subst (Contains by_name.keys) is (member by_name k range.1.1);
+      behind = pair.2;
+      least = λ other h less.
+          let inside = behind_in fact.kind fact.name fact.place other hi high (made (fact_of fact.kind fact.name other) h) less in
+          let first = range.2 (fact_of fact.kind fact.name other) inside (has by_name (fact_of fact.kind fact.name other) h) in
+          place_of_first fact.kind fact.name k.place other (subst (λ (f : Fact). IsLeBy name_first f (fact_of fact.kind fact.name other)) is first);
+    }
+
+-- what isn't before another is at or behind it
+not_before : (a b : Ordering) → b ≡ ordering_reverse a → (a ≡ Less → ⊥) → is_gt b ≡ false
+not_before Less b e other = absurd (other refl)
+not_before Equal b e other = ap is_gt e
+not_before Greater b e other = ap is_gt e
+
+-- where nothing stands between the bounds no fact of the kind and name lies behind
+pub none_is_last : (by_name : BTreeSet Fact) (fact hi : Fact) → AreFacts by_name.keys → IsAfterPair fact.kind fact.name hi
+    → IsKeyRangeOf name_first (Excluded fact) (Included hi) by_name [] → IsLastPlace by_name.keys fact.kind fact.name fact.place
+none_is_last by_name fact hi made high range other h =
+    not_before (place_cmp fact.place other) (place_cmp other fact.place) (places_total.antisymm other fact.place) (λ less.
+    let inside = behind_in fact.kind fact.name fact.place other hi high (made (fact_of fact.kind fact.name other) h) less in
+    let absent = range.5 refl (fact_of fact.kind fact.name other) inside in
+    let e : true ≡ false = sym (has by_name (fact_of fact.kind fact.name other) h) ∙ absent in
+    absurd (cc))
 
 -- ---- a fact added
 

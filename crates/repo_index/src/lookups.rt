@@ -3,7 +3,7 @@
 ghost use Rattle.std.specs.Prelude.{◌≡◌, ◌≢◌, ◌↔◌, ◌∷◌, [], List, IsTrue, IsFalse, OnOk, OnErr, IfOk, IfSome, IfNone, Contains};
 ghost use Rattle.repo_pack.specs.declared.places.Place.{Place};
 ghost use Rattle.repo_index.specs.IndexText.{fact_of, facts_in};
-ghost use Rattle.repo_index.specs.Lookups.{IsLeast, Joins, Grew, HasSame};
+ghost use Rattle.repo_index.specs.Lookups.{IsLeast, IsNextPlace, IsLastPlace, Joins, Grew, HasSame};
 ghost use Rattle.repo_index.specs.declared.facts.Fact.{Fact};
 
 use crate::bounds::{greatest_of_pair, least_of_pair};
@@ -21,7 +21,7 @@ use std::ops::Bound;
 /// Where blobs lie, by the facts of the indexes that were added. A clause sees these facts in a list, and tells which ones
 /// it contains.
 ///
-/// It finds a blob's least place in logarithmic time. A fact takes 76 bytes in an ordered set, whose blocks have room for 15
+/// It finds a blob's least place, and the next one behind a place, in logarithmic time. A fact takes 76 bytes in an ordered set, whose blocks have room for 15
 /// facts and hold 7 at least: 78 to 175 bytes a fact, and no allocation of its own. Who wants a pack's facts has them
 /// [`Placed`].
 #[derive(Drop)]
@@ -156,6 +156,19 @@ impl Lookup {
         let greatest = greatest_of_pair(kind, *name);
         let of_pair = (Bound::Included(least), Bound::Included(greatest));
         let key = self.by_name.range(of_pair).next()?;
+        Some(key.fact().place)
+    }
+
+    /// The next place behind a fact's at which its blob lies, by the facts added. `None` if there is none. It takes no memory.
+    pub fn find_next(&self, fact: Fact) -> Option<Place>
+        ensures found { IfSome result (IsNextPlace self.now fact.kind fact.name fact.place) }
+        ensures none { IfNone result (IsLastPlace self.now fact.kind fact.name fact.place) }
+    {
+        // Its contract tells the proof what the type of names says.
+        fact.place.pack.to_bytes();
+        let greatest = greatest_of_pair(fact.kind, fact.name);
+        let behind = (Bound::Excluded(ByName::of(fact)), Bound::Included(greatest));
+        let key = self.by_name.range(behind).next()?;
         Some(key.fact().place)
     }
 
