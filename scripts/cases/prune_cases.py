@@ -267,6 +267,39 @@ def lost_packs(script):
         script.report()
 
 
+def spoilt(script, name, data, blob):
+    """A pack whose blob has another first byte."""
+    start = data.index(blob)
+    script.lift("pack", name)
+    script.lay("pack", name, data[:start] + bytes([data[start] ^ 1]) + data[start + 1:])
+
+
+def bad_copies(script):
+    """A blob that moves has copies in three packs, of which some are bad: the first good one is taken. Where all are, the store stays as it is."""
+    objects = mixed().packed(("content", ABC), ("content", b"fg")).packed(("content", ABC), ("content", b"hi"))
+    packs = sorted((name, data) for kind, name, data in objects.all if kind == "pack")
+    snapshot = next(name for kind, name, _ in objects.all if kind == "snapshot")
+    for bad in ([0], [1], [2], [0, 1], [0, 2], [0, 1, 2]):
+        script.heading("a prune: of three copies of a blob these are bad: " + " ".join(map(str, bad)))
+        laid(script, objects)
+        for place in bad:
+            spoilt(script, *packs[place], ABC)
+        pruned(script)
+        restored(script, snapshot)
+    both = Objects().packed(("tree", ROOT), ("content", DE), ("content", ABC)).packed(("tree", ROOT), ("content", b"fg")).with_snapshot(ROOT)
+    packs = sorted((name, data) for kind, name, data in both.all if kind == "pack")
+    for bad in ([0], [0, 1]):
+        script.heading("a prune: of two copies of a tree these are bad once it moves: " + " ".join(map(str, bad)))
+        laid(script, both)
+        client = script.start_prune()
+        script.until(client, "range")
+        script.step(client)
+        for place in bad:
+            spoilt(script, *packs[place], ROOT)
+        script.finish(client)
+        script.report()
+
+
 def begun(script):
     """A prune that puts a pack and an index, and deletes two indexes and two packs."""
     script.fresh()
@@ -399,4 +432,4 @@ def by_chance(script):
         script.report()
 
 
-ALL = [over_replies, unreadable, worked, by_hand, broken, lost_packs, interrupted, beside, many, by_chance]
+ALL = [over_replies, unreadable, worked, by_hand, broken, lost_packs, bad_copies, interrupted, beside, many, by_chance]

@@ -13,6 +13,14 @@ def least_places(facts):
     return places
 
 
+def all_places(facts):
+    """Of each blob, by kind and name, its places, ascending."""
+    places = {}
+    for kind, name, place in sorted(set(facts), key=lambda fact: fact[2]):
+        places.setdefault((kind, name), []).append(place)
+    return places
+
+
 def by_pack(facts):
     """The facts of each pack, each once, by their places."""
     packs = {}
@@ -42,7 +50,7 @@ class Prune:
         missing = {pack for _, _, (pack, _, _) in facts} - set(packs)
         if missing:
             raise End("missing pack", min(missing))
-        self.places = least_places(facts)
+        self.places, self.copies = least_places(facts), all_places(facts)
         for root, follows in roots:
             yield from self.walk(root, 0, follows)
         self.used = {("tree", tree) for tree in self.nodes} | {("content", name) for name in self.content}
@@ -64,18 +72,18 @@ class Prune:
             raise End("missing " + kind, name)
         return self.places[kind, name]
 
-    def blob(self, kind, name):
-        """A blob's bytes, from its place."""
-        place = self.place(kind, name)
-        data, = yield from asked(("range", *place), "bytes")
-        if len(data) != place[2] or name_of(data) != name:
-            raise End("bad " + kind, name)
-        return data
+    def blob(self, kind, name, places):
+        """A blob's bytes, from the first of these places that has them."""
+        for place in places:
+            data, = yield from asked(("range", *place), "bytes")
+            if len(data) == place[2] and name_of(data) == name:
+                return data
+        raise End("bad " + kind, name)
 
     def tree(self, name):
-        """A tree's nodes, and its bytes. It is asked for once."""
+        """A tree's nodes, and its bytes. It is asked for once, at its least place."""
         if name not in self.nodes:
-            data = yield from self.blob("tree", name)
+            data = yield from self.blob("tree", name, [self.place("tree", name)])
             try:
                 self.nodes[name] = read_tree(data), data
             except Unreadable:
@@ -124,8 +132,9 @@ class Prune:
                 moves += copies
         return kept, moves
 
-    def move(self, kind, name, place):
-        self.open.append((kind, (yield from self.blob(kind, name))))
+    def move(self, kind, name, _):
+        """A blob comes to the pack that is open, from the first of its copies that is good."""
+        self.open.append((kind, (yield from self.blob(kind, name, self.copies[kind, name]))))
         if sum(len(blob) for _, blob in self.open) >= self.client.config[3] or len(self.open) == PACK_BLOBS:
             yield from self.put_pack()
 

@@ -30,6 +30,8 @@ pub mod MissingPacks
 pub mod Pairs
 pub mod Firsts
 pub mod Unsent
+pub mod Wanting
+pub mod Copies
 pub mod PruneMoves
 pub mod PrunePacks
 pub mod UpgradeRuns

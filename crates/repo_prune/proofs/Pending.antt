@@ -1,5 +1,6 @@
 -- In which stage of a prune a put or a delete is pending, and which replies to them aren't wanted.
-use Rattle.std.proofs.Common.{◌≡◌, ◌≢◌, ℕ, List, refl}
+use Rattle.std.proofs.Common.{◌≡◌, ◌≢◌, ℕ, List, Option, refl}
+use Rattle.repo_pack.specs.declared.places.Place.{Place}
 use Rattle.repo_name.specs.declared.kinds.Kind.{Kind}
 use Rattle.repo_name.specs.declared.names.Name.{Name}
 use Rattle.repo_name.specs.declared.tokens.Token.{Token}
@@ -16,21 +17,21 @@ use Rattle.repo_prune.specs.declared.relisting.Relisting.{Relisting}
 pub delete_pending : (k : Known) (stage : Stage) (token : Token) (kind : Kind) (n : Name) (es : Trace) → KnowsStage k stage (Ask.Delete token kind n) es → (d : Deleting) × (stage ≡ Stage.Deleting d)
 delete_pending k Stage.Listing token kind n es h = absurd h
 delete_pending k (Stage.Walking trees fact) token kind n es h = let asks = h.asks in absurd (cc)
-delete_pending k (Stage.Moving m) token kind n es h = absurd h
+delete_pending k (Stage.Moving m place) token kind n es h = absurd h
 delete_pending k (Stage.Relisting r) token kind n es h = absurd h
 delete_pending k (Stage.Deleting d) token kind n es h = (d, refl)
 
-pub pack_pending : (k : Known) (stage : Stage) (token : Token) (n : Name) (x : List ℕ) (es : Trace) → KnowsStage k stage (Ask.Put token Kind.Pack n x) es → (m : Moving) × (stage ≡ Stage.Moving m)
+pub pack_pending : (k : Known) (stage : Stage) (token : Token) (n : Name) (x : List ℕ) (es : Trace) → KnowsStage k stage (Ask.Put token Kind.Pack n x) es → (m : Moving) × (place : Option Place) × (stage ≡ Stage.Moving m place)
 pack_pending k Stage.Listing token n x es h = absurd h
 pack_pending k (Stage.Walking trees fact) token n x es h = let asks = h.asks in absurd (cc)
-pack_pending k (Stage.Moving m) token n x es h = (m, refl)
+pack_pending k (Stage.Moving m place) token n x es h = (m, place, refl)
 pack_pending k (Stage.Relisting r) token n x es h = absurd h
 pack_pending k (Stage.Deleting d) token n x es h = absurd h
 
 pub index_pending : (k : Known) (stage : Stage) (token : Token) (n : Name) (x : List ℕ) (es : Trace) → KnowsStage k stage (Ask.Put token Kind.Index n x) es → (r : Relisting) × (stage ≡ Stage.Relisting r)
 index_pending k Stage.Listing token n x es h = absurd h
 index_pending k (Stage.Walking trees fact) token n x es h = let asks = h.asks in absurd (cc)
-index_pending k (Stage.Moving m) token n x es h = absurd h
+index_pending k (Stage.Moving m place) token n x es h = absurd h
 index_pending k (Stage.Relisting r) token n x es h = (r, refl)
 index_pending k (Stage.Deleting d) token n x es h = absurd h
 

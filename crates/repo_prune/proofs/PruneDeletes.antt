@@ -267,7 +267,7 @@ module _ (k : Known) (d : Deleting) (who : Asker) (token : Token) (es : Trace) (
       record {
         work = tt;
         may = (w, refl);
-        allowed = (come, record { packs = c.packs; settled = c.may.settled; among = old.0; unput = old.1; behind = λ m asked. behind_first d.indexes.items d.indexes_gone n c.may.indexes_ascend at m (subst (λ ns. Contains ns m) c.indexes_deleted asked) });
+        allowed = (inl come, record { packs = c.packs; settled = c.may.settled; among = old.0; unput = old.1; behind = λ m asked. behind_first d.indexes.items d.indexes_gone n c.may.indexes_ascend at m (subst (λ ns. Contains ns m) c.indexes_deleted asked) });
         knows = (at, c);
       }
 
@@ -277,7 +277,7 @@ module _ (k : Known) (d : Deleting) (who : Asker) (token : Token) (es : Trace) (
       record {
         work = tt;
         may = (w, refl);
-        allowed = (come, record { packs = c.packs; settled = c.may.settled; replaced = replaced all; all = c.may.all; among = old.among; unput = old.unput; unlisted = old.unlisted; behind = λ m asked. behind_first d.packs.items d.packs_gone n c.may.packs_ascend at m (subst (λ ns. Contains ns m) c.deleted asked) });
+        allowed = (inl come, record { packs = c.packs; settled = c.may.settled; replaced = replaced all; all = c.may.all; among = old.among; unput = old.unput; unlisted = old.unlisted; behind = λ m asked. behind_first d.packs.items d.packs_gone n c.may.packs_ascend at m (subst (λ ns. Contains ns m) c.deleted asked) });
         knows = (all, at, c);
       }
 

@@ -45,15 +45,16 @@ use Rattle.repo_session.proofs.Telling.{seen_run}
 use Rattle.repo_session.proofs.Wholeness.{given_held}
 use Rattle.repo_writing.proofs.PutLemmas.{asked_put}
 use Rattle.repo_prune.specs.PruneLaws.{IsPrunedOrMemory, PruneEndsWell}
-use Rattle.repo_prune.specs.Pruning.{prune_task, IsUntouched, IsWanted, IsBadTree, IsMissingPack, PruneAllows, PruneGives, PruneConcludes}
+use Rattle.repo_prune.specs.Pruning.{prune_task, IsUntouched, IsLastWanted, IsBadTree, IsMissingPack, PruneAllows, PruneGives, PruneConcludes}
 use Rattle.repo_prune.proofs.Asides.{only_listed}
 use Rattle.repo_prune.proofs.ForgetRuns.{undeleted}
 use Rattle.repo_prune.proofs.PruneRuns.{throughout}
+use Rattle.repo_prune.proofs.Wanting.{last_wanted, wanted_first, wanted_read}
 
 pub prune_reads_first : (es : Trace) (ask : Ask) → IsPermitted PruneAllows es ask → IsReading ask → NoneDeleted es
 prune_reads_first es (Ask.List k after) h r = (h tt).1.0
 prune_reads_first es (Ask.Get k n) h r = (h tt).1.0
-prune_reads_first es (Ask.Range pack offset len) h r = (h tt).1.1.known.none
+prune_reads_first es (Ask.Range pack offset len) h r = wanted_first es (h tt).1.0 (h tt).1.1
 prune_reads_first es Ask.Ticket h r = absurd r
 prune_reads_first es (Ask.Lock row) h r = absurd r
 prune_reads_first es (Ask.Refresh token time) h r = absurd r
@@ -136,18 +137,15 @@ module _ (who : Asker) (from : Store) (fit : IsFit from) (agree : Agree (IsHeld 
   no_missing_pack : (pack : Name) → IsMissingPack (trace_of talk) pack → ⊥
   no_missing_pack pack m = m.unlisted (subst (Lists (trace_of talk) Kind.Pack) m.of_pack (pack_listed m.fact m.packs m.read))
 
--- a fact whose blob is wanted is one that an index gives
-wanted_read : (es : Trace) (fact : Fact) → IsWanted es fact → ReadFact es fact
-wanted_read es fact wanted = (wanted.known.gives fact).0 wanted.copy.least.among
-
 -- where the store is sound after each exchange, no blob that was wanted came bad
 no_bad_part : (who : Asker) (from : Store) → IsFit from → (talk : Talk) (to : Store) → Obeys (prune_task who) PruneAllows PruneGives (trace_of talk) → Led from talk to → IsSoundThroughout from talk → (thing : Thing) (name : Name)
-    → IsBadPart IsWanted (trace_of talk) thing name → ⊥
+    → IsBadPart IsLastWanted (trace_of talk) thing name → ⊥
 no_bad_part who from fit [] to o h sound thing name bad = bad
-no_bad_part who from fit (turn ∷ talk) to o h sound thing name (fact, wanted, (is, x, said, bad), kind, called) =
+no_bad_part who from fit (turn ∷ talk) to o h sound thing name (fact, last, (is, x, said, bad), kind, called) =
     let es : Trace = trace_of talk in
+    let wanted = last_wanted es fact last in
     let e : Exchange = exchange turn.request turn.reply turn.emitted in
-    let none = none_deleted_on e es (subst DeletesNone (sym is) (λ k. refl)) wanted.known.none in
+    let none = none_deleted_on e es (subst DeletesNone (sym is) (λ k. refl)) (wanted_first es fact wanted) in
     let shares : Shares from (e ∷ es) to = (known (prune_task who) PruneAllows PruneGives from fit (turn ∷ talk) to h o).shares (undeleted (e ∷ es) none) in
     let read = wanted_read es fact wanted in
     let listed = shares.got Kind.Index read.index read.text (inr read.read.0) in

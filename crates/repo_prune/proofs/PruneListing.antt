@@ -168,8 +168,8 @@ listed_come (e ∷ es) listed = λ part. (let p = part_is e.ask part in absurd (
 
 -- where those before a kind were read, it may ask for pages of it, and for its objects but packs, each once
 kind_allowed : (j : Kind) (es : Trace) (ask : Ask) → j ≢ Kind.Pack → IsReadInTurn j es → ReadsKind j es ask → HasOnlyListed es → PruneAllows es ask
-kind_allowed j es (Ask.List i after) other turn h listed = (listed_come es listed, (listed.none_deleted, subst (λ k. IsReadInTurn k es) (sym h) turn))
-kind_allowed j es (Ask.Get i n) other turn h listed = (listed_come es listed, (listed.none_deleted, λ is. other (sym h.0 ∙ is), h.1, subst (λ k. IsReadInTurn k es) (sym h.0) turn))
+kind_allowed j es (Ask.List i after) other turn h listed = (inl (listed_come es listed), (listed.none_deleted, subst (λ k. IsReadInTurn k es) (sym h) turn))
+kind_allowed j es (Ask.Get i n) other turn h listed = (inl (listed_come es listed), (listed.none_deleted, λ is. other (sym h.0 ∙ is), h.1, subst (λ k. IsReadInTurn k es) (sym h.0) turn))
 kind_allowed j es (Ask.Range pack offset len) other turn h listed = absurd h
 kind_allowed j es (Ask.Put t i n x) other turn h listed = absurd h
 kind_allowed j es (Ask.Delete t i n) other turn h listed = absurd h
@@ -315,12 +315,12 @@ no_listing k stage (Ask.Unlock t) j es is h = is
 no_listing k stage Ask.Locks j es is h = is
 no_listing k Stage.Listing (Ask.List i after) j es is h = h
 no_listing k (Stage.Walking trees fact) (Ask.List i after) j es is h = let asks = h.asks in absurd (cc)
-no_listing k (Stage.Moving m) (Ask.List i after) j es is h = h
+no_listing k (Stage.Moving m place) (Ask.List i after) j es is h = h
 no_listing k (Stage.Relisting r) (Ask.List i after) j es is h = h
 no_listing k (Stage.Deleting d) (Ask.List i after) j es is h = h
 no_listing k Stage.Listing (Ask.Get i n) j es is h = h
 no_listing k (Stage.Walking trees fact) (Ask.Get i n) j es is h = let asks = h.asks in absurd (cc)
-no_listing k (Stage.Moving m) (Ask.Get i n) j es is h = h
+no_listing k (Stage.Moving m place) (Ask.Get i n) j es is h = h
 no_listing k (Stage.Relisting r) (Ask.Get i n) j es is h = h
 no_listing k (Stage.Deleting d) (Ask.Get i n) j es is h = h
 no_listing k stage (Ask.Range pack offset len) j es is h = is
@@ -353,6 +353,13 @@ may_step j who e es (Step.Ask ask) none come h = let a = h come in (inl none, re
 may_step j who e es (Step.Finish outcome) none come h = (inl none, h come)
 may_step j who e es Step.Want none come h = absurd h
 may_step j who e es Step.Away none come h = absurd h
+
+-- a step that it may take by what its stage knows, it may take
+pub may_turn : (j : Prune) (who : Asker) (e : Exchange) (es : Trace) (step : Step) → MayStep prune_rule who (KnowsStage (known_in j) j.stage) es e step → MayStep prune_rule who (KnowsPrune j) es e step
+may_turn j who e es (Step.Ask ask) h = (h.0, record { work = h.1.work; may = h.1.may; allowed = h.1.allowed; knows = later_known j ask (e ∷ es) h.1.knows })
+may_turn j who e es (Step.Finish outcome) h = h
+may_turn j who e es Step.Want h = h
+may_turn j who e es Step.Away h = h
 
 -- the stage and the step of what comes next
 pub gone_on : (k : Known) (who : Asker) (onward : Onward) (j : Prune) (step : Step) (es : Trace) → step ≡ onward.step → j.stage ≡ onward.stage → known_in j ≡ k → IsNextStep k who onward.stage onward.step es
@@ -409,7 +416,7 @@ knows_listing old Ask.Config new h is = absurd is
 pub pack_page : (j : Prune) (es : Trace) (ask : Ask) (after : Option Name) → ask ≡ Ask.List Kind.Pack after → ListsPacks j ask es → PruneAllows es ask × KnowsPrune j ask es
 pack_page j es ask after is h =
     let indexed = are_indexed j.catalog.roll.kind j.catalog.roll.names.items j.catalog.roll.read j.catalog.lookup es h.indexes h.all in (
-      subst (PruneAllows es) (sym is) (listed_come es h.untouched, (h.untouched.none_deleted, ((j.snapshots.rows.items, h.snapshots), indexed))),
+      subst (PruneAllows es) (sym is) (inl (listed_come es h.untouched), (h.untouched.none_deleted, ((j.snapshots.rows.items, h.snapshots), indexed))),
       subst (λ a. KnowsPrune j a es) (sym is) (subst (λ a. ListsPacks j a es) is h),
     )
 

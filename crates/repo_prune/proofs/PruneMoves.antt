@@ -1,5 +1,5 @@
 -- What is known while a prune moves blobs, and once it did.
-use Rattle.std.proofs.Common.{arith, Vec, Global, ◌+◌, ◌≡◌, ◌≢◌, ◌≤◌, ◌⊎◌, ◌↔◌, ◌++◌, ◌∷◌, [], ℕ, List, Some, length, map, take, slice_get, refl, sym, ap, subst, inl, inr, ◌∙◌, Contains, append-nil, append_assoc}
+use Rattle.std.proofs.Common.{arith, Vec, Global, ◌+◌, ◌≡◌, ◌≢◌, ◌≤◌, ◌⊎◌, ◌↔◌, ◌++◌, ◌∷◌, [], ℕ, List, Option, Some, None, length, map, take, slice_get, refl, sym, ap, subst, inl, inr, ◌∙◌, Contains, append-nil, append_assoc}
 use Rattle.std.specs.List.{flat_map}
 use Rattle.std.specs.List.Sorted.{IsStrictlySortedBy}
 use Rattle.std.proofs.lemmas.List.{map-append, take_all}
@@ -15,14 +15,16 @@ use Rattle.repo_pack.specs.PackLayout.{Item, IsTruePack}
 use Rattle.repo_pack.specs.PackWriting.{IsDue, IsOpen}
 use Rattle.repo_pack.specs.declared.writers.Sealed.{Sealed}
 use Rattle.repo_index.specs.IndexText.{facts_in}
+use Rattle.repo_index.specs.Lookups.{IsLastPlace, IsNextPlace}
 use Rattle.repo_index.specs.Order.{place_first}
+use Rattle.repo_pack.specs.declared.places.Place.{Place}
 use Rattle.repo_index.specs.declared.facts.Fact.{Fact}
 use Rattle.repo_index.specs.declared.facts.PackFacts.{PackFacts}
 use Rattle.repo_wire.specs.declared.messages.Ask.{Ask}
 use Rattle.repo_wire.specs.declared.messages.Say.{Say}
 use Rattle.repo_session.specs.declared.jobs.Step.{Step}
 use Rattle.repo_session.specs.Askers.{Asker}
-use Rattle.repo_session.specs.Jobs.{MayAsk}
+use Rattle.repo_session.specs.Jobs.{MayAsk, MayStep}
 use Rattle.repo_session.specs.Order.{IsWorking}
 use Rattle.repo_session.specs.Blobs.{range_of, HasCome, IsBadBlob}
 use Rattle.repo_session.specs.Traces.{Each, Exchange, Trace, object_put, ReadFact}
@@ -37,9 +39,12 @@ use Rattle.repo_writing.specs.Putting.{IsPacked, Packed}
 use Rattle.repo_writing.specs.Writing.{Put, IsPut, items_of, ArePut, AreCounts}
 use Rattle.repo_writing.specs.declared.counts.Counts.{Counts}
 use Rattle.repo_writing.specs.declared.targets.Target.{Target}
-use Rattle.repo_prune.specs.Moving.{IsMoving, AwaitsBlob, MovesOn, SendsPack}
-use Rattle.repo_prune.specs.PruneStates.{Known, AreReceived, HaveCome, ArePlanned, HasPlanned, IsRepacking, KnowsMove, HasMoved, KnowsStage, IsNextStep, MovesTo}
-use Rattle.repo_prune.specs.Pruning.{prune_rule, prune_task, HasToMove, IsNeededBy, MustMoveBy, AreLastMoved, AreNextMoved, WasReceived, AreFewParts, parts_in, IsNextMove, IsSurveyed, IsWanted, Pair, pair_of_fact, pair_of_item, PruneConcludes}
+use Rattle.repo_prune.specs.Moving.{IsMoving, AwaitsBlob, MovesOn, SendsPack, copy_at}
+use Rattle.repo_prune.specs.inner.Replies.{LooksBehind}
+use Rattle.repo_prune.proofs.Copies.{awaits_first, awaits_next, bad_later, copies_tried, few_later, received_later}
+use Rattle.repo_prune.proofs.Wanting.{wanted_read}
+use Rattle.repo_prune.specs.PruneStates.{Known, AreReceived, AwaitsCopy, HaveCome, ArePlanned, HasPlanned, IsRepacking, KnowsMove, HasMoved, KnowsStage, IsNextStep, MovesTo}
+use Rattle.repo_prune.specs.Pruning.{prune_rule, prune_task, HasToMove, IsNeededBy, MustMoveBy, AreLastMoved, AreNextMoved, WasReceived, AreBadCopies, AreFewParts, FollowsBadCopy, IsCopyWanted, IsMoveWanted, parts_in, IsNextMove, IsSurveyed, IsWanted, Pair, pair_of_fact, pair_of_item, PruneConcludes}
 use Rattle.repo_prune.specs.declared.moving.Moved.{Moved}
 use Rattle.repo_prune.specs.declared.moving.Moving.{Moving}
 use Rattle.repo_prune.specs.declared.prunes.Stage.{Stage}
@@ -47,12 +52,12 @@ use Rattle.repo_prune.proofs.Asides.{IsAside, packs_whole, read_same}
 use Rattle.repo_pack.specs.PackLayout.{IsBlobLength}
 use Rattle.repo_session.specs.declared.outcomes.End.{End}
 use Rattle.repo_session.specs.declared.outcomes.Outcome.{Outcome}
-use Rattle.repo_session.specs.Ends.{blob_thing, Concludes}
+use Rattle.repo_session.specs.Ends.{blob_thing}
 use Rattle.repo_prune.proofs.Pairs.{moved_once}
 use Rattle.repo_prune.proofs.PruneTrees.{part_ends, read_within}
 use Rattle.repo_prune.proofs.Relistings.{in_first}
 use Rattle.repo_prune.proofs.Repacking.{none_awaited, one_taken}
-use Rattle.repo_prune.proofs.Unsent.{unsent}
+use Rattle.repo_prune.proofs.Unsent.{first_of_pair, unsent}
 use Rattle.repo_session.proofs.Descending.{received_grows}
 
 -- ---- what stays over a part of a pack or a put
@@ -91,45 +96,43 @@ each_holds (p ∷ puts) h = (h.0.holds, each_holds puts h.1)
 
 -- ---- what was received
 
-received_later : (e : Exchange) (es : Trace) (facts : List Fact) → AreReceived es facts → AreReceived (e ∷ es) facts
-received_later e es facts h fact among = let was = h fact among in (was.0, received_grows e es fact.kind was.0 was.1, was.2)
-
 -- by the same blobs that move, up to the same place
 pub received_as : (m n : Moving) (i j : ℕ) (es : Trace) → n.moves ≡ m.moves → j ≡ i → HaveCome es m.moves.items i → HaveCome es n.moves.items j
 received_as m n i j es moves same h = subst (λ (v : Vec Fact Global). HaveCome es v.items j) (sym moves) (subst (HaveCome es m.moves.items) (sym same) h)
 
--- no more parts of packs
-few_later : (e : Exchange) (es : Trace) (i j : ℕ) → parts_in e.ask + i ≡ j → AreFewParts es i → AreFewParts (e ∷ es) j
-few_later e es i j more h = record {
-  trees = h.trees;
-  received = λ x among. received_grows e es Tree x (h.received x among);
-  read = h.read;
-  apart = h.apart;
-  few = (let few = h.few in omega (arith, few, more));
-}
-
 -- over an exchange that asks for none
 pub received_on : (m n : Moving) (i j : ℕ) (e : Exchange) (es : Trace) → n.moves ≡ m.moves → j ≡ i → parts_in e.ask ≡ 0 → HaveCome es m.moves.items i → HaveCome (e ∷ es) n.moves.items j
 received_on m n i j e es moves same none h =
-    let more : parts_in e.ask + i ≡ i = omega (arith, none) in
-    received_as m n i j (e ∷ es) moves same (record { received = received_later e es (take i m.moves.items) h.received; parts = few_later e es i i more h.parts })
+    let count : ℕ = i + length h.bad in
+    let more : parts_in e.ask + count ≡ count = omega (arith, none) in
+    received_as m n i j (e ∷ es) moves same (record {
+      received = received_later e es (take i m.moves.items) h.received;
+      bad = h.bad;
+      tried = bad_later e es (take i m.moves.items) h.bad h.tried;
+      parts = few_later e es count count more h.parts;
+    })
 
--- over one that brings the next blob
-pub received_more : (m n : Moving) (e : Exchange) (es : Trace) (fact : Fact) (x : List ℕ) → n.moves ≡ m.moves → n.added ≡ m.asked + 1 → slice_get m.moves.items m.asked ≡ Some fact → ReadFact es fact
-    → e.ask ≡ range_of fact → e.say ≡ Say.Bytes x → naming.name x ≡ fact.name → length x ≡ fact.place.length
-    → HaveCome es m.moves.items m.asked → HaveCome (e ∷ es) n.moves.items n.added
-received_more m n e es fact x moves more at read is said named long h =
-    let now : WasReceived (e ∷ es) fact.kind fact.name = (x, record { fact = fact; given = fact_stays e es fact read; of_kind = refl; replied = inl (is, said); long = long; named = named }, named) in
+-- over one that brings the next blob, by one of its copies
+pub received_more : (m n : Moving) (e : Exchange) (es : Trace) (fact : Fact) (place : Option Place) (x : List ℕ) → n.moves ≡ m.moves → n.added ≡ m.asked + 1 → slice_get m.moves.items m.asked ≡ Some fact
+    → ReadFact es (copy_at fact place) → e.ask ≡ range_of (copy_at fact place) → e.say ≡ Say.Bytes x → naming.name x ≡ fact.name → length x ≡ (copy_at fact place).place.length
+    → AwaitsCopy es m.moves.items m.asked (copy_at fact place) → HaveCome (e ∷ es) n.moves.items n.added
+received_more m n e es fact place x moves more at read is said named long h =
+    let copy : Fact = copy_at fact place in
+    let now : WasReceived (e ∷ es) fact.kind fact.name = (x, record { fact = copy; given = fact_stays e es copy read; of_kind = refl; replied = inl (is, said); long = long; named = named }, named) in
     let before : AreReceived (e ∷ es) (take m.asked m.moves.items) = received_later e es (take m.asked m.moves.items) h.received in
     let all : AreReceived (e ∷ es) (take m.asked m.moves.items ++ fact ∷ []) = λ f among. elim (Contains-append_cases (take m.asked m.moves.items) (fact ∷ []) f among) [
       | inl first ↦ before f first
       | inr last ↦ elim (contained_or fact [] f last) [ inl same ↦ subst (λ (g : Fact). WasReceived (e ∷ es) g.kind g.name) same now | inr none ↦ absurd (none_contained f none) ]
     ] in
     let one : parts_in e.ask ≡ 1 = ap parts_in is in
-    let next : parts_in e.ask + m.asked ≡ m.asked + 1 = omega (arith, one) in
+    let size : ℕ = length h.copies in
+    let next : parts_in e.ask + (m.asked + size) ≡ m.asked + 1 + size = omega (arith, one) in
+    let taken = sym (one_taken m.moves.items m.asked fact at) in
     received_as m n (m.asked + 1) n.added (e ∷ es) moves more (record {
-      received = subst (AreReceived (e ∷ es)) (sym (one_taken m.moves.items m.asked fact at)) all;
-      parts = few_later e es m.asked (m.asked + 1) next h.parts;
+      received = subst (AreReceived (e ∷ es)) taken all;
+      bad = h.copies;
+      tried = subst (λ fs. AreBadCopies (e ∷ es) fs h.copies) taken (copies_tried e es m.moves.items m.asked fact copy refl refl h);
+      parts = few_later e es (m.asked + size) (m.asked + 1 + size) next h.parts;
     })
 
 -- ---- with the moving as it stands
@@ -200,7 +203,7 @@ module _ (k : Known) (m n : Moving) (puts : List Put) (es : Trace) (r : IsRepack
       subst (λ (p : Pair). WasReceived es p.kind p.name) found.2 (got found.0 found.1)
 
   -- the next blob is wanted
-  move_wanted : (fact : Fact) → HaveCome es n.moves.items n.added → AwaitsBlob n fact (items_of puts) [] → n.added ≡ n.asked → IsOpen n.packer.writer → IsWanted es fact
+  move_wanted : (fact : Fact) → HaveCome es n.moves.items n.added → AwaitsBlob n fact (items_of puts) [] → n.added ≡ n.asked → IsOpen n.packer.writer → IsMoveWanted es fact
   unfolding next_moved
   move_wanted fact got a first room =
       let among : Contains m.moves.items fact = subst (λ fs. Contains fs fact) same_moves (contains_got n.moves.items n.asked fact a.asked) in
@@ -215,25 +218,29 @@ module _ (k : Known) (m n : Moving) (puts : List Put) (es : Trace) (r : IsRepack
         before = next_moved n.packer.writer.items pairs;
         next = ap (λ (i : ℕ). slice_get n.moves.items i) first ∙ a.asked;
         room = (wants.0, wants.1, subst (λ t. IsOpen (record { items = n.packer.writer.items; target = t })) (a.moving.aim ∙ sent_aim) room);
+        bad = got.bad;
+        tried = got.tried;
         few = got.parts;
       } in
       let fresh = unsent (facts_in r.kept) n.moves.items n.asked n.added fact sent n.packer.writer.items once a.asked a.before pairs in
       record {
         known = surveyed;
-        copy = must.copy;
-        wanted = inr (r.planned.walked, must, λ packed. fresh (packed_one m.counts puts es r.put fact.kind fact.name packed), next);
+        walked = r.planned.walked;
+        must = must;
+        unput = λ packed. fresh (packed_one m.counts puts es r.put fact.kind fact.name packed);
+        next = next;
       }
 
   -- the next blob may be asked for
   pub move_asked : (fact : Fact) → HaveCome es n.moves.items n.added → AwaitsBlob n fact (items_of puts) [] → n.listed.items ≡ m.listed.items → n.added ≡ n.asked → IsOpen n.packer.writer
-      → HasCome IsWanted es → MayAsk prune_rule who (KnowsStage k (Stage.Moving n)) es (range_of fact)
+      → HasCome IsWanted es → MayAsk prune_rule who (KnowsStage k (Stage.Moving n None)) es (range_of fact)
   move_asked fact got a listed first room come =
       let among : Contains m.moves.items fact = subst (λ fs. Contains fs fact) same_moves (contains_got n.moves.items n.asked fact a.asked) in
       let wanted = move_wanted fact got a first room in
       record {
         work = tt;
         may = ((token, w), (fact, r.planned.moves_are fact among, refl, refl, refl));
-        allowed = (come, (fact, wanted, refl));
+        allowed = (inl come, (fact, inr (inl wanted), refl));
         knows = record {
           puts = puts;
           sealed = [];
@@ -241,8 +248,8 @@ module _ (k : Known) (m n : Moving) (puts : List Put) (es : Trace) (r : IsRepack
           repacking = repacks_as k m n puts [] es moves target listed (counted_alone n.counts puts a.moving.counted) r;
           awaits = a;
           asks = refl;
-          wanted = wanted;
-          received = subst (HaveCome es n.moves.items) first got;
+          wanted = inl wanted;
+          received = awaits_first es n.moves.items n.asked fact (subst (HaveCome es n.moves.items) first got);
         };
       }
 
@@ -297,7 +304,7 @@ module _ (k : Known) (m n : Moving) (puts : List Put) (es : Trace) (r : IsRepack
         elim s.full [ inl full ↦ inl (wants.0, wants.1, subst (λ b. IsDue (record { items = s.items; target = b })) sent_aim full) | inr all ↦ inr (sent_last all) ]
 
   -- a pack may be put
-  pub pack_asked : (sealed : Sealed) → HaveCome es n.moves.items n.added → SendsPack (items_of puts) m.listed.items sealed n → HasCome IsWanted es → MayAsk prune_rule who (KnowsStage k (Stage.Moving n)) es (Ask.Put token Kind.Pack sealed.name sealed.bytes)
+  pub pack_asked : (sealed : Sealed) → HaveCome es n.moves.items n.added → SendsPack (items_of puts) m.listed.items sealed n → HasCome IsWanted es → MayAsk prune_rule who (KnowsStage k (Stage.Moving n None)) es (Ask.Put token Kind.Pack sealed.name sealed.bytes)
   pack_asked sealed got s come =
       let p : Put = put_of sealed s.items s.listed in
       let is : IsPut p = is_put (Some sealed) s.items sealed s.listed s.lists in
@@ -309,7 +316,7 @@ module _ (k : Known) (m n : Moving) (puts : List Put) (es : Trace) (r : IsRepack
         work = tt;
         may = (w, sym s.lists.holds.named, s.lists.holds.small);
         allowed = (
-          come,
+          inl come,
           record {
             known = surveyed;
             walked = r.planned.walked;
@@ -345,9 +352,9 @@ module _ (k : Known) (m n : Moving) (puts : List Put) (es : Trace) (r : IsRepack
       }
 
   -- what comes next, unless all is moved
-  pub goes_on : HaveCome es n.moves.items n.added → (moved : Moved) (step : Step) → moved ≢ Moved.Done → MovesOn (items_of puts) m.listed.items moved n → MovesTo token moved step → IsNextStep k who (Stage.Moving n) step es
-  goes_on got (Moved.Ask fact) step other on to = subst (λ s. IsNextStep k who (Stage.Moving n) s es) (sym to) (move_asked fact got on.0 on.1 on.2 on.3)
-  goes_on got (Moved.Put sealed) step other on to = subst (λ s. IsNextStep k who (Stage.Moving n) s es) (sym (to on.items on.lists.holds)) (pack_asked sealed got on)
+  pub goes_on : HaveCome es n.moves.items n.added → (moved : Moved) (step : Step) → moved ≢ Moved.Done → MovesOn (items_of puts) m.listed.items moved n → MovesTo token moved step → IsNextStep k who (Stage.Moving n None) step es
+  goes_on got (Moved.Ask fact) step other on to = subst (λ s. IsNextStep k who (Stage.Moving n None) s es) (sym to) (move_asked fact got on.0 on.1 on.2 on.3)
+  goes_on got (Moved.Put sealed) step other on to = subst (λ s. IsNextStep k who (Stage.Moving n None) s es) (sym (to on.items on.lists.holds)) (pack_asked sealed got on)
   goes_on got Moved.Done step other on to = absurd (other refl)
   goes_on got Moved.Nothing step other on to = absurd on
 
@@ -380,41 +387,42 @@ begins_moving k m kept moves es h is listed same aim = record {
 pub none_received : (m : Moving) (es : Trace) → AreFewParts es 0 → m.added ≡ 0 → HaveCome es m.moves.items m.added
 none_received m es parts none = record {
   received = λ fact among. absurd (none_contained fact (subst (λ (i : ℕ). Contains (take i m.moves.items) fact) none among));
-  parts = subst (AreFewParts es) (sym none) parts;
+  bad = [];
+  tried = record {
+    of = λ copy among. absurd (none_contained copy among);
+    bad = λ copy among. absurd (none_contained copy among);
+    apart = λ i j d before within. absurd (omega (arith, within));
+  };
+  parts = (let none_yet : List Fact = [] in let zero : m.added + length none_yet ≡ 0 = omega (arith, none) in subst (AreFewParts es) (sym zero) parts);
 }
 
 -- ---- a blob came
 
--- the blob of this fact was asked for, and is wanted
-pub record IsAwaited (k : Known) (m : Moving) (fact : Fact) (ask : Ask) (es : Trace) : Type 0 where
+-- a copy of this fact's blob was asked for, and is wanted
+pub record IsAwaited (k : Known) (m : Moving) (fact : Fact) (place : Option Place) (ask : Ask) (es : Trace) : Type 0 where
   pub puts : List Put
   pub sealed : List Item
   pub repacking : IsRepacking k m puts [] es
   pub awaits : AwaitsBlob m fact (items_of puts) sealed
-  pub asks : ask ≡ range_of fact
-  pub read : ReadFact es fact
-  pub wanted : IsWanted es fact
-  pub received : HaveCome es m.moves.items m.asked
+  pub asks : ask ≡ range_of (copy_at fact place)
+  pub read : ReadFact es (copy_at fact place)
+  pub wanted : IsCopyWanted es (copy_at fact place)
+  pub received : AwaitsCopy es m.moves.items m.asked (copy_at fact place)
 
-pub blob_known : (k : Known) (m : Moving) (fact : Fact) (ask : Ask) (es : Trace) → Some fact ≡ slice_get m.moves.items m.asked → KnowsMove k m ask es → IsAwaited k m fact ask es
-blob_known k m fact ask es at h =
+pub blob_known : (k : Known) (m : Moving) (fact : Fact) (place : Option Place) (ask : Ask) (es : Trace) → Some fact ≡ slice_get m.moves.items m.asked → KnowsMove k m place ask es → IsAwaited k m fact place ask es
+blob_known k m fact place ask es at h =
     let same : h.fact ≡ fact = sym (same_Some fact h.fact (at ∙ h.awaits.asked)) in
-    let a : AwaitsBlob m fact (items_of h.puts) h.sealed = subst (λ f. AwaitsBlob m f (items_of h.puts) h.sealed) same h.awaits in
+    let wanted = subst (λ f. IsCopyWanted es (copy_at f place)) same h.wanted in
     record {
       puts = h.puts;
       sealed = h.sealed;
       repacking = h.repacking;
-      awaits = a;
-      asks = h.asks ∙ ap range_of same;
-      read = h.repacking.planned.moves_are fact (contains_got m.moves.items m.asked fact a.asked);
-      wanted = subst (IsWanted es) same h.wanted;
-      received = h.received;
+      awaits = subst (λ f. AwaitsBlob m f (items_of h.puts) h.sealed) same h.awaits;
+      asks = h.asks ∙ ap (λ f. range_of (copy_at f place)) same;
+      read = wanted_read es (copy_at fact place) (inr wanted);
+      wanted = wanted;
+      received = subst (λ f. AwaitsCopy es m.moves.items m.asked (copy_at f place)) same h.received;
     }
-
--- it isn't what the fact promises
-pub bad_range : (known : ℕ) (e : Exchange) (es : Trace) (fact : Fact) (x : List ℕ) → e.ask ≡ range_of fact → e.say ≡ Say.Bytes x → IsWanted es fact → IsBadBlob fact x
-    → Concludes known PruneConcludes (e ∷ es) (Outcome.Ended (End.BadObject (blob_thing fact.kind) fact.name))
-bad_range known e es fact x is said wanted bad = inr (part_ends (e ∷ es) (blob_thing fact.kind) fact.name (fact, wanted, (is, x, said, bad), refl, refl))
 
 read_length : (es : Trace) (fact : Fact) → ReadFact es fact → IsBlobLength fact.place.length
 read_length es fact read = (read_within es fact read).blob
@@ -466,3 +474,65 @@ repacks_put k m puts p token e es is said h =
       listed = h.listed ∙ ap (λ ps. h.kept ++ map (λ (q : Put). q.listed) ps) (sym (append-nil (puts ++ p ∷ [])));
       aim = h.aim;
     }
+
+-- ---- a copy came bad
+
+-- the store is surveyed while blobs are moved
+abbrev pub surveyed_by : (k : Known) (m : Moving) (puts next : List Put) (es : Trace) → IsRepacking k m puts next es → IsSurveyed es
+surveyed_by k m puts next es r = record {
+  none = r.none;
+  rows = k.rows;
+  snapshots = r.read.all.snapshots;
+  indexes = r.read.all.indexes;
+  packs = packs_whole k es r.read;
+  there = r.read.there;
+  texts = r.planned.texts;
+  trees = r.planned.trees;
+  facts = k.facts;
+  gives = r.read.all.gives;
+}
+
+module _ (k : Known) (m : Moving) (fact : Fact) (place : Option Place) (e : Exchange) (es : Trace) (x : List ℕ) (h : IsAwaited k m fact place e.ask es) (said : e.say ≡ Say.Bytes x) (bad : IsBadBlob (copy_at fact place) x) (who : Asker)
+    (token : Token) (w : IsWorking (prune_task who) token (e ∷ es)) where
+  copy : Fact
+  copy = copy_at fact place
+
+  later : IsRepacking k m h.puts [] (e ∷ es)
+  later = repacks_range k m h.puts e es (copy_at fact place).place.pack (copy_at fact place).place.offset (copy_at fact place).place.length h.asks h.repacking
+
+  -- the next copy may be asked for
+  next_asked : (next : Place) → IsNextPlace k.facts fact.kind fact.name (copy_at fact place).place next → MayAsk prune_rule who (KnowsStage k (Stage.Moving m (Some next))) (e ∷ es) (range_of (copy_at fact (Some next)))
+  next_asked next is =
+      let other : Fact = copy_at fact (Some next) in
+      let follows : FollowsBadCopy (e ∷ es) other = (
+        copy_at fact place,
+        h.wanted,
+        (h.asks, x, said, bad),
+        record { known = surveyed_by k m h.puts [] (e ∷ es) later; kind = refl; name = refl; next = is },
+      ) in
+      let first = first_of_pair (facts_in h.repacking.kept) m.moves.items m.asked fact h.repacking.planned.once h.awaits.asked in
+      record {
+        work = tt;
+        may = ((token, w), (other, wanted_read (e ∷ es) other (inr (inr follows)), refl, refl, refl));
+        allowed = (inr (other, follows, refl), (other, inr (inr follows), refl));
+        knows = record {
+          puts = h.puts;
+          sealed = h.sealed;
+          fact = fact;
+          repacking = later;
+          awaits = h.awaits;
+          asks = refl;
+          wanted = inr follows;
+          received = awaits_next e es m.moves.items m.asked (copy_at fact place) next x h.asks said bad first is.behind h.received;
+        };
+      }
+
+  -- it ends where there is none
+  none_left : IsLastPlace k.facts fact.kind fact.name (copy_at fact place).place → PruneConcludes (e ∷ es) (Outcome.Ended (End.BadObject (blob_thing fact.kind) fact.name))
+  none_left last =
+      part_ends (e ∷ es) (blob_thing fact.kind) fact.name
+      (copy_at fact place, inr (h.wanted, record { known = surveyed_by k m h.puts [] es h.repacking; last = last }), (h.asks, x, said, bad), refl, refl)
+
+  pub looks_behind : e.emitted ≡ [] → (step : Step) (next : Option Place) → LooksBehind k.facts (copy_at fact place) step next → MayStep prune_rule who (KnowsStage k (Stage.Moving m next)) es e step
+  looks_behind silent step (Some next) is = subst (λ s. MayStep prune_rule who (KnowsStage k (Stage.Moving m (Some next))) es e s) (sym is.1) (inl silent, next_asked next is.0)
+  looks_behind silent step None is = subst (λ s. MayStep prune_rule who (KnowsStage k (Stage.Moving m None)) es e s) (sym is.1) (inl silent, inr (none_left is.0))

@@ -236,7 +236,7 @@ module _ (k : Known) (r s : Relisting) (es : Trace) (h : MayList k r es) where
         work = tt;
         may = (w, refl, p.short);
         allowed = (
-          come,
+          inl come,
           record {
             known = record {
               none = h.packed.none;

@@ -56,7 +56,7 @@ use Rattle.repo_writing.proofs.PutLemmas.{each_contained}
 use Rattle.repo_prune.specs.inner.Deciding.{IsPlanned}
 use Rattle.repo_prune.specs.Keeping.{Row}
 use Rattle.repo_prune.specs.PruneStates.{Known, HaveRead, IsWalkOver, HasWalked, ArePlanned, KnowsStage}
-use Rattle.repo_prune.specs.Pruning.{AreFewParts, HasOnlyListed, earlier, parts_in, parts_asked, prune_rule, prune_task, IsNeededBy, IsUsedCopyBy, MayStayBy, AreWalked, IsWanted, IsBadTree, IsWalking, PruneConcludes}
+use Rattle.repo_prune.specs.Pruning.{AreFewParts, HasOnlyListed, earlier, parts_in, parts_asked, prune_rule, prune_task, IsNeededBy, IsUsedCopyBy, MayStayBy, AreWalked, IsTreeWanted, IsLastWanted, IsWanted, IsBadTree, IsWalking, PruneConcludes}
 use Rattle.repo_prune.specs.Reading.{Walks, WalksOn, Awaits, IsPromised, TakesTree}
 use Rattle.repo_prune.specs.declared.reading.Walked.{Walked}
 use Rattle.repo_prune.proofs.Asides.{IsAside, IsNoChange, fact_same, only_listed, packs_whole, read_same, untouched_same}
@@ -120,7 +120,7 @@ over_walking k texts trees es over come = record {
 }
 
 -- a tree that is to be asked for is wanted
-tree_wanted : (k : Known) (es : Trace) (texts : List (List ℕ)) (trees : Trees) (fact : Fact) → IsWalkOver k texts trees es → Awaits k.facts texts trees fact → IsWanted es fact
+tree_wanted : (k : Known) (es : Trace) (texts : List (List ℕ)) (trees : Trees) (fact : Fact) → IsWalkOver k texts trees es → Awaits k.facts texts trees fact → IsTreeWanted es fact
 tree_wanted k es texts trees fact over a =
     let of_tree : Tree ≡ fact.kind = sym a.next.0 in
     record {
@@ -140,7 +140,9 @@ tree_wanted k es texts trees fact over a =
         is_used = subst (λ kind. IsNeededBy k.rows texts kind fact.name) of_tree (tree_needed k es texts trees fact.name over a.next.3);
         least = subst (λ kind. IsLeast k.facts kind fact.name fact.place) of_tree a.next.1;
       };
-      wanted = inl (a.next.0, λ x received same. (let seen = a.walks.walk.seen.known x (over.all x received) in a.next.2 seen.0 seen.1 seen.2 (seen.3 ∙ same)), over_parts k texts trees es over a.walks);
+      tree = a.next.0;
+      fresh = λ x received same. (let seen = a.walks.walk.seen.known x (over.all x received) in a.next.2 seen.0 seen.1 seen.2 (seen.3 ∙ same));
+      few = over_parts k texts trees es over a.walks;
     }
 
 pub tree_asked : (k : Known) (who : Asker) (token : Token) (es : Trace) (texts : List (List ℕ)) (trees : Trees) (fact : Fact) → IsWorking (prune_task who) token es → IsWalkOver k texts trees es → Awaits k.facts texts trees fact
@@ -150,7 +152,7 @@ tree_asked k who token es texts trees fact w over a come =
     record {
       work = tt;
       may = ((token, w), (fact, awaited_read k es texts trees fact over.read a, refl, refl, refl));
-      allowed = (come, (fact, wanted, refl));
+      allowed = (inl come, (fact, inl wanted, refl));
       knows = record { texts = texts; over = over; awaits = a; asks = refl; wanted = wanted };
     }
 
@@ -421,7 +423,7 @@ walk_more k texts trees new fact e es x over a is promised roots =
     }
 
 -- a blob that came bad ends the prune
-pub part_ends : (es : Trace) (thing : Thing) (name : Name) → IsBadPart IsWanted es thing name → PruneConcludes es (Outcome.Ended (End.BadObject thing name))
+pub part_ends : (es : Trace) (thing : Thing) (name : Name) → IsBadPart IsLastWanted es thing name → PruneConcludes es (Outcome.Ended (End.BadObject thing name))
 part_ends es Thing.Tree name bad = inr bad
 part_ends es Thing.Content name bad = bad
 part_ends es Thing.Pack name bad = bad
@@ -430,12 +432,12 @@ part_ends es Thing.Snapshot name bad = bad
 
 -- the tree's bytes are bad, or it can't go on
 pub tree_ended : (known : ℕ) (k : Known) (texts : List (List ℕ)) (trees new : Trees) (fact : Fact) (e : Exchange) (es : Trace) (end : End) → IsWalkOver k texts trees es → Awaits k.facts texts trees fact
-    → e.ask ≡ range_of fact → IsWanted es fact → new.roots ≡ trees.roots → TakesTree k.facts texts fact e.say new (Walked.Ended end) → Concludes known PruneConcludes (e ∷ es) (Outcome.Ended end)
+    → e.ask ≡ range_of fact → IsTreeWanted es fact → new.roots ≡ trees.roots → TakesTree k.facts texts fact e.say new (Walked.Ended end) → Concludes known PruneConcludes (e ∷ es) (Outcome.Ended end)
 tree_ended known k texts trees new fact e es end over a is wanted roots (inl (x, said, bad, same)) =
     let kind : Thing.Tree ≡ blob_thing fact.kind = sym (ap blob_thing a.next.0) in
-    let part : IsBadPart IsWanted (e ∷ es) Thing.Tree fact.name = (fact, wanted, (is, x, said, bad), kind, refl) in
+    let part : IsBadPart IsLastWanted (e ∷ es) Thing.Tree fact.name = (fact, inl wanted, (is, x, said, bad), kind, refl) in
     subst (λ z. Concludes known PruneConcludes (e ∷ es) (Outcome.Ended z)) (sym same) (inr (part_ends (e ∷ es) Thing.Tree fact.name part))
 tree_ended known k texts trees new fact e es end over a is wanted roots (inr (x, promised, why)) =
     let more = walk_more k texts trees new fact e es x over a is promised roots in
-    let come : HasCome IsWanted (e ∷ es) = λ part. (fact, wanted, (is, x, promised.bytes, promised.long, promised.named)) in
+    let come : HasCome IsWanted (e ∷ es) = λ part. (fact, inl wanted, (is, x, promised.bytes, promised.long, promised.named)) in
     inr (cannot_go_on k (e ∷ es) (texts ++ x ∷ []) new more come (over_parts k texts trees es over a.walks) end why)

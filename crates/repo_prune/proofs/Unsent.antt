@@ -33,6 +33,18 @@ first_pairs (item ∷ first) rest (fact ∷ facts) h =
     let those = first_pairs first rest facts more in
     cc (one, those)
 
+-- those that move, cut before one of them
+cut_at : (kept moves : List Fact) (i : ℕ) (fact : Fact) → slice_get moves i ≡ Some fact → kept ++ moves ≡ ((kept ++ take i moves) ++ fact ∷ []) ++ drop (i + 1) moves
+cut_at kept moves i fact at =
+    ap (λ ms. kept ++ ms) (sym (take-append-drop (i + 1) moves) ∙ ap (λ ts. ts ++ drop (i + 1) moves) (one_taken moves i fact at))
+    ∙ sym (append_assoc kept (take i moves ++ fact ∷ []) (drop (i + 1) moves)) ∙ ap (λ fs. fs ++ drop (i + 1) moves) (sym (append_assoc kept (take i moves) (fact ∷ [])))
+
+-- none of those before it is of its kind and name
+pub first_of_pair : (kept moves : List Fact) (i : ℕ) (fact : Fact) → AreFactsOnce (kept ++ moves) → slice_get moves i ≡ Some fact → ¬ HasFact (take i moves) fact.kind fact.name
+first_of_pair kept moves i fact once at was =
+    some_first (kept ++ take i moves) (fact ∷ []) (drop (i + 1) moves) (subst AreFactsOnce (cut_at kept moves i fact at) once) fact.kind fact.name (fact.place, first_contained fact [])
+    (was.0, Contains-append_right kept (take i moves) (fact_of fact.kind fact.name was.0) was.1)
+
 -- the blob of a fact isn't among blobs that were sent, where these are of facts before it
 pub unsent : (kept moves : List Fact) (i added : ℕ) (fact : Fact) (sent rest : List Item) → AreFactsOnce (kept ++ moves) → slice_get moves i ≡ Some fact → length sent ≤ i → map pair_of_item (sent ++ rest) ≡ map pair_of_fact (take added moves)
     → ¬ HasItem sent fact.kind fact.name
@@ -44,9 +56,4 @@ unsent kept moves i added fact sent rest once at few same has =
     let name = ap (λ (p : Pair). p.name) found.2 ∙ has.3 in
     let is : found.0 ≡ fact_of fact.kind fact.name found.0.place = λ j. record { kind = kind j; name = name j; place = found.0.place } in
     let before : Contains (take i moves) (fact_of fact.kind fact.name found.0.place) = subst (Contains (take i moves)) is (among_more moves (length sent) added i found.0 few found.1) in
-    let was : HasFact (kept ++ take i moves) fact.kind fact.name = (found.0.place, Contains-append_right kept (take i moves) (fact_of fact.kind fact.name found.0.place) before) in
-    some_first (kept ++ take i moves) (fact ∷ []) (drop (i + 1) moves) (subst AreFactsOnce all once) fact.kind fact.name (fact.place, first_contained fact []) was
-  where
-    all : kept ++ moves ≡ ((kept ++ take i moves) ++ fact ∷ []) ++ drop (i + 1) moves
-    all = ap (λ ms. kept ++ ms) (sym (take-append-drop (i + 1) moves) ∙ ap (λ ts. ts ++ drop (i + 1) moves) (one_taken moves i fact at))
-        ∙ sym (append_assoc kept (take i moves ++ fact ∷ []) (drop (i + 1) moves)) ∙ ap (λ fs. fs ++ drop (i + 1) moves) (sym (append_assoc kept (take i moves) (fact ∷ [])))
+    first_of_pair kept moves i fact once at (found.0.place, before)

@@ -1,8 +1,10 @@
 -- What is known while a prune moves blobs to new packs.
-use Rattle.std.specs.Prelude.{◌≡◌, ◌≢◌, ◌≤◌, ◌⊎◌, ◌+◌, ◌++◌, ◌∷◌, [], List, length, map, take, slice_get, Some, None, ℕ}
+use Rattle.std.specs.Prelude.{◌≡◌, ◌≢◌, ◌≤◌, ◌⊎◌, ◌+◌, ◌++◌, ◌∷◌, [], List, Option, length, map, take, slice_get, Some, None, ℕ}
 use Rattle.repo_pack.specs.PackLayout.{Item, IsBlobLength}
 use Rattle.repo_pack.specs.PackWriting.{IsDue, IsOpen}
+use Rattle.repo_pack.specs.declared.places.Place.{Place}
 use Rattle.repo_pack.specs.declared.writers.Sealed.{Sealed}
+use Rattle.repo_index.specs.IndexText.{fact_of}
 use Rattle.repo_index.specs.declared.facts.Fact.{Fact}
 use Rattle.repo_index.specs.declared.facts.PackFacts.{PackFacts}
 use Rattle.repo_writing.specs.Filling.{WasOpen, IsJustDue}
@@ -11,6 +13,15 @@ use Rattle.repo_writing.specs.Writing.{AreCounts}
 use Rattle.repo_prune.specs.Pruning.{pair_of_item, pair_of_fact}
 use Rattle.repo_prune.specs.declared.moving.Moved.{Moved}
 use Rattle.repo_prune.specs.declared.moving.Moving.{Moving}
+
+-- a place, or else this one
+abbrev pub place_or : Place → Option Place → Place
+place_or else None = else
+place_or else (Some place) = place
+
+-- the copy of a fact's blob at a place; the fact itself if none is said
+abbrev pub copy_at : Fact → Option Place → Fact
+copy_at fact place = fact_of fact.kind fact.name (place_or fact.place place)
 
 -- the blobs so far: those of the packs sent, of the pack that is sealed, and of the pack that is being written
 abbrev pub items_so_far : List Item → List Item → Moving → List Item

@@ -1,5 +1,6 @@
 -- What is known while a prune goes on.
-use Rattle.std.specs.Prelude.{⊤, ◌≡◌, ◌≢◌, ◌≤◌, ◌⊎◌, ◌↔◌, ◌++◌, ◌∷◌, [], ℕ, true, false, List, length, map, take, slice_get, Some, Contains}
+use Rattle.std.specs.Prelude.{⊤, ◌≡◌, ◌≢◌, ◌≤◌, ◌⊎◌, ◌↔◌, ◌+◌, ◌++◌, ◌∷◌, [], ℕ, true, false, List, Option, length, map, take, slice_get, Some, Contains}
+use Rattle.std.specs.declared.cmp.Ordering.TheVariants.{Less}
 use Rattle.std.specs.List.Sorted.{IsStrictlySortedBy}
 use Rattle.std.specs.List.{AllPairs}
 use Rattle.repo_name.specs.Naming as naming
@@ -12,8 +13,9 @@ use Rattle.repo_name.specs.declared.tokens.Token.{Token}
 use Rattle.repo_wire.specs.declared.messages.Ask.{Ask}
 use Rattle.repo_wire.specs.declared.messages.Say.{Say}
 use Rattle.repo_pack.specs.PackLayout.{Item}
+use Rattle.repo_pack.specs.declared.places.Place.{Place}
 use Rattle.repo_index.specs.IndexText.{facts_in, IsIndexText}
-use Rattle.repo_index.specs.Order.{place_first}
+use Rattle.repo_index.specs.Order.{place_cmp, place_first}
 use Rattle.repo_index.specs.declared.facts.Fact.{Fact}
 use Rattle.repo_index.specs.declared.facts.PackFacts.{PackFacts}
 use Rattle.repo_tree.specs.declared.configs.Config.{Config}
@@ -46,8 +48,8 @@ use Rattle.repo_writing.specs.Sealing.{IsSealedOf}
 use Rattle.repo_writing.specs.Writing.{Put, items_of, ArePut, AreListed, ListsPack}
 use Rattle.repo_writing.specs.declared.counts.Counts.{Counts}
 use Rattle.repo_prune.specs.Keeping.{Row}
-use Rattle.repo_prune.specs.Moving.{IsMoving, AwaitsBlob}
-use Rattle.repo_prune.specs.Pruning.{prune_rule, prune_task, ArePacksListed, HasOnlyListed, IsUntouched, AreTrees, IsNeededBy, AreWalked, MayStayBy, MustMoveBy, IsWanted, AreLastMoved, IsPutOrStays, WasReceived, AreFewParts, parts_asked, AscendByName, AreCovered, IsSettled, PruneConcludes}
+use Rattle.repo_prune.specs.Moving.{IsMoving, AwaitsBlob, copy_at}
+use Rattle.repo_prune.specs.Pruning.{prune_rule, prune_task, ArePacksListed, HasOnlyListed, IsUntouched, AreTrees, IsNeededBy, AreWalked, MayStayBy, MustMoveBy, IsTreeWanted, IsWanted, AreLastMoved, IsPutOrStays, WasReceived, WasBad, AreBadCopies, AreFewParts, IsCopyWanted, parts_asked, AscendByName, AreCovered, IsSettled, PruneConcludes}
 use Rattle.repo_prune.specs.Reading.{Walks, Awaits, HasTaken}
 use Rattle.repo_prune.specs.Relisting.{AreListable}
 use Rattle.repo_prune.specs.declared.deleting.Deleting.{Deleting}
@@ -104,7 +106,7 @@ pub record KnowsWalking (k : Known) (trees : Trees) (fact : Fact) (ask : Ask) (e
   pub over : IsWalkOver k texts trees es
   pub awaits : Awaits k.facts texts trees fact
   pub asks : ask ≡ range_of fact
-  pub wanted : IsWanted es fact
+  pub wanted : IsTreeWanted es fact
 
 -- all trees were read
 pub record HasWalked (k : Known) (trees : Trees) (es : Trace) : Type 0 where
@@ -156,21 +158,36 @@ pub record IsRepacking (k : Known) (m : Moving) (puts next : List Put) (es : Tra
 abbrev pub AreReceived : Trace → List Fact → Type 0
 AreReceived es facts = (fact : Fact) → Contains facts fact → WasReceived es fact.kind fact.name
 
--- the first so many of these were, and no part of a pack was asked for but once for each of them, and for each tree
+-- the first so many of these were; and a part of a pack was asked for at most once for each tree, for each of them, and for each copy of these that came bad
 pub record HaveCome (es : Trace) (moves : List Fact) (count : ℕ) : Type 0 where
   pub received : AreReceived es (take count moves)
-  pub parts : AreFewParts es count
+  pub bad : List Fact
+  pub tried : AreBadCopies es (take count moves) bad
+  pub parts : AreFewParts es (count + length bad)
 
--- a blob was asked for, which is wanted, and those before it were received
-pub record KnowsMove (k : Known) (m : Moving) (ask : Ask) (es : Trace) : Type 0 where
+-- a copy that came bad is of a blob before the one that is awaited; or it is of this one, and lies before the copy that is
+abbrev pub IsTriedBefore : List Fact → Fact → Fact → Type 0
+IsTriedBefore before awaited copy = HasFact before copy.kind copy.name ⊎ ((copy.kind ≡ awaited.kind) × (copy.name ≡ awaited.name) × (place_cmp copy.place awaited.place ≡ Less))
+
+-- a copy of the blob behind the first so many is awaited: these were received; each copy that came bad was tried before; and no more parts were asked for
+pub record AwaitsCopy (es : Trace) (moves : List Fact) (count : ℕ) (awaited : Fact) : Type 0 where
+  pub received : AreReceived es (take count moves)
+  pub copies : List Fact
+  pub of : (copy : Fact) → Contains copies copy → IsTriedBefore (take count moves) awaited copy
+  pub bad : (copy : Fact) → Contains copies copy → WasBad es copy
+  pub apart : AllPairs (λ (a b : Fact). a ≢ b) copies
+  pub parts : AreFewParts es (count + length copies)
+
+-- a copy of a blob was asked for, which is wanted, and the blobs before it were received
+pub record KnowsMove (k : Known) (m : Moving) (place : Option Place) (ask : Ask) (es : Trace) : Type 0 where
   pub puts : List Put
   pub sealed : List Item
   pub fact : Fact
   pub repacking : IsRepacking k m puts [] es
   pub awaits : AwaitsBlob m fact (items_of puts) sealed
-  pub asks : ask ≡ range_of fact
-  pub wanted : IsWanted es fact
-  pub received : HaveCome es m.moves.items m.asked
+  pub asks : ask ≡ range_of (copy_at fact place)
+  pub wanted : IsCopyWanted es (copy_at fact place)
+  pub received : AwaitsCopy es m.moves.items m.asked (copy_at fact place)
 
 -- a pack is being put, and all blobs added so far were received
 pub record PrunePutsPack (k : Known) (m : Moving) (n : Name) (x : List ℕ) (es : Trace) : Type 0 where
@@ -311,10 +328,10 @@ pub record IsFreshPrune (j : Prune) : Type 0 where
   pub no_packs : j.packs.names.items ≡ []
   pub no_pack_read : j.packs.read ≡ 0
 
-abbrev pub KnowsMoving : Known → Moving → Ask → Trace → Type 0
-KnowsMoving k m (Ask.Range pack offset len) es = KnowsMove k m (Ask.Range pack offset len) es
-KnowsMoving k m (Ask.Put token Kind.Pack n x) es = PrunePutsPack k m n x es
-KnowsMoving k m _ es = ⊥
+abbrev pub KnowsMoving : Known → Moving → Option Place → Ask → Trace → Type 0
+KnowsMoving k m place (Ask.Range pack offset len) es = KnowsMove k m place (Ask.Range pack offset len) es
+KnowsMoving k m place (Ask.Put token Kind.Pack n x) es = PrunePutsPack k m n x es
+KnowsMoving k m place _ es = ⊥
 
 abbrev pub KnowsRelisting : Known → Relisting → Ask → Trace → Type 0
 KnowsRelisting k r (Ask.Put token Kind.Index n x) es = PrunePutsIndex k r n x es
@@ -329,7 +346,7 @@ KnowsDeleting d _ es = ⊥
 abbrev pub KnowsStage : Known → Stage → Ask → Trace → Type 0
 KnowsStage k Stage.Listing ask es = ⊥
 KnowsStage k (Stage.Walking trees fact) ask es = KnowsWalking k trees fact ask es
-KnowsStage k (Stage.Moving m) ask es = KnowsMoving k m ask es
+KnowsStage k (Stage.Moving m place) ask es = KnowsMoving k m place ask es
 KnowsStage k (Stage.Relisting r) ask es = KnowsRelisting k r ask es
 KnowsStage k (Stage.Deleting d) ask es = KnowsDeleting d ask es
 

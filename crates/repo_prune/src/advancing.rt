@@ -98,7 +98,7 @@ impl Prune {
             moved => {
                 let step = move_on(token, moved);
                 Ok(Onward {
-                    stage: Stage::Moving(moving),
+                    stage: Stage::Moving(moving, None),
                     step,
                 })
             }

@@ -10,6 +10,7 @@ use crate::moving::Moving;
 use crate::relisting::Relisting;
 use repo_index::Fact;
 use repo_name::{Kind, LEAST_TARGET, Token};
+use repo_pack::Place;
 use repo_reach::Trees;
 use repo_session::{
     Catalog, Emission, Holder, Job, Roll, Session, SnapshotRoll, Step, Versions, Who,
@@ -26,8 +27,8 @@ pub enum Stage {
     Listing,
     /// Trees are being read, and that of this fact was asked for.
     Walking(Trees, Fact),
-    /// Blobs are being moved to new packs.
-    Moving(Moving),
+    /// Blobs are being moved to new packs, and the copy at this place was asked for, if it isn't the used one.
+    Moving(Moving, Option<Place>),
     /// The packs that stay are being listed in new indexes.
     Relisting(Relisting),
     /// Old indexes, and then packs, are being deleted.

@@ -17,15 +17,17 @@ ghost use Rattle.repo_prune.specs.declared.moving.Moving.{Moving};
 ghost use Rattle.repo_prune.specs.declared.prunes.Stage.{Stage};
 ghost use Rattle.repo_prune.specs.declared.relisting.Relisting.{Relisting};
 ghost use Rattle.repo_prune.specs.PruneStates.{known_in, AwaitsAgain, StepsFrom, KnowsAsMuch};
-ghost use Rattle.repo_prune.specs.inner.Replies.{StepsInWalk, KnowsInWalk, EndsWalk, StepsInMoves, KnowsInMoves, EndsMoves, EndsIndexes, StepsFromPut};
+ghost use Rattle.repo_prune.specs.Moving.{copy_at};
+ghost use Rattle.repo_prune.specs.inner.Replies.{StepsInWalk, KnowsInWalk, EndsWalk, StepsInMoves, KnowsInMoves, EndsMoves, LooksBehind, EndsIndexes, StepsFromPut};
 ghost use Rattle.repo_prune.specs.inner.Sorts.{IsBytes};
 
 use crate::advancing::{end, move_on};
 use crate::moving::Moved;
 use crate::prunes::{Prune, Stage};
 use crate::reading::{Walked, take_tree, untake};
-use repo_index::Fact;
+use repo_index::{Fact, Lookup};
 use repo_name::{Kind, Token};
+use repo_pack::Place;
 use repo_session::{End, Fetched, Step, blob_of, blob_thing, range_ask};
 use repo_wire::Say;
 use std::alloc::AllocError;
@@ -36,6 +38,29 @@ fn bad_blob(fact: Fact) -> Step
     ensures short { IsShortStep result }
 {
     end(End::BadObject(blob_thing(fact.kind), fact.name))
+}
+
+/// The copy of a fact's blob at a place, and the fact itself if none is said.
+fn copy_at(fact: Fact, place: Option<Place>) -> Fact
+    ensures { result ≡ copy_at fact place }
+{
+    Fact {
+        kind: fact.kind,
+        name: fact.name,
+        place: place.unwrap_or(fact.place),
+    }
+}
+
+/// Goes on where this copy came bad: the next one behind it is asked for, and its place is noted. It ends if there is none.
+fn look_behind(lookup: &Lookup, copy: Fact, place: &mut Option<Place>) -> Step
+    ensures behind { LooksBehind lookup.now copy result place.new }
+    ensures short { IsShortStep result }
+{
+    *place = lookup.find_next(copy);
+    match *place {
+        Some(_) => Step::Ask(range_ask(copy_at(copy, *place))),
+        None => bad_blob(copy),
+    }
 }
 
 impl Prune {
@@ -89,24 +114,29 @@ impl Prune {
         }
     }
 
-    /// Takes the reply to the request for a blob that moves. It fails for memory alone, and then what was known is
-    /// known.
+    /// Takes the reply to the request for a copy of a blob that moves: if it is bad, the next copy is asked for. It fails for
+    /// memory alone, and then what was known is known.
     fn take_blob(&mut self, token: Token, say: &Say) -> Result<Step, AllocError>
         ensures steps { IfOk result (λ step. StepsInMoves self.old token say.now step self.new) }
         ensures heeds { IfOk result (λ step. (step ≡ Step.Away) ⊎ IsBytes say.now) }
         ensures short { IfOk result IsShortStep }
         ensures knows { OnErr result (KnowsInMoves self.old self.new) }
     {
-        let Stage::Moving(moving) = &mut self.stage else {
+        let Stage::Moving(moving, place) = &mut self.stage else {
             return Ok(Step::Away);
         };
         let Some(fact) = moving.awaited() else {
             return Ok(Step::Away);
         };
-        match blob_of(fact, say) {
-            Fetched::Blob(bytes) => Ok(move_on(token, moving.take_blob(fact, bytes)?)),
-            Fetched::Misnamed => Ok(bad_blob(fact)),
-            Fetched::Uneven => Ok(bad_blob(fact)),
+        let copy = copy_at(fact, *place);
+        match blob_of(copy, say) {
+            Fetched::Blob(bytes) => {
+                let moved = moving.take_blob(fact, bytes)?;
+                *place = None;
+                Ok(move_on(token, moved))
+            }
+            Fetched::Misnamed => Ok(look_behind(&self.catalog.lookup, copy, place)),
+            Fetched::Uneven => Ok(look_behind(&self.catalog.lookup, copy, place)),
             Fetched::Unwelcome => Ok(Step::Away),
         }
     }
@@ -120,7 +150,7 @@ impl Prune {
     {
         match &self.stage {
             Stage::Walking(_, _) => self.take_tree(token, say),
-            Stage::Moving(_) => self.take_blob(token, say),
+            Stage::Moving(_, _) => self.take_blob(token, say),
             _ => Ok(Step::Away),
         }
     }
@@ -131,12 +161,15 @@ impl Prune {
         ensures short { IfOk result IsShortStep }
         ensures knows { OnErr result ((own : Token) (name : Name) (bytes : List ℕ) → KnowsAsMuch self.old (Ask.Put own Kind.Pack name bytes) self.new) }
     {
-        let Stage::Moving(moving) = &mut self.stage else {
+        let Stage::Moving(moving, place) = &mut self.stage else {
             return Ok(Step::Away);
         };
         match moving.next()? {
             Moved::Done => self.finish_moves(token),
-            moved => Ok(move_on(token, moved)),
+            moved => {
+                *place = None;
+                Ok(move_on(token, moved))
+            }
         }
     }
 
@@ -146,7 +179,7 @@ impl Prune {
         ensures short { IfOk result IsShortStep }
         ensures err { OnErr result (self.new ≡ self.old) }
     {
-        let Stage::Moving(moving) = &self.stage else {
+        let Stage::Moving(moving, _) = &self.stage else {
             return Ok(Step::Away);
         };
         let onward = self.after_moves(token, moving)?;

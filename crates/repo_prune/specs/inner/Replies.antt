@@ -1,5 +1,12 @@
 -- What comes of replies, by the stage of a prune.
-use Rattle.std.specs.Prelude.{◌≡◌, List, ℕ}
+use Rattle.std.specs.Prelude.{◌≡◌, List, ℕ, Option, Some, None}
+use Rattle.repo_pack.specs.declared.places.Place.{Place}
+use Rattle.repo_index.specs.Lookups.{IsNextPlace, IsLastPlace}
+use Rattle.repo_session.specs.Blobs.{range_of}
+use Rattle.repo_session.specs.Ends.{blob_thing}
+use Rattle.repo_session.specs.declared.outcomes.End.{End}
+use Rattle.repo_session.specs.declared.outcomes.Outcome.{Outcome}
+use Rattle.repo_prune.specs.Moving.{copy_at}
 use Rattle.repo_prune.specs.PruneStates.{HasListed, StepsFrom, HasWalked, HasMoved, GoesTo, known_in, KnowsAsMuch}
 use Rattle.repo_reach.specs.declared.trees.Trees.{Trees}
 use Rattle.repo_index.specs.declared.facts.Fact.{Fact}
@@ -27,14 +34,19 @@ EndsWalk old token step new = (trees : Trees) (fact : Fact) → old.stage ≡ St
 
 -- while it moves blobs
 abbrev pub StepsInMoves : Prune → Token → Say → Step → Prune → Type 0
-StepsInMoves old token say step new = (moving : Moving) (pack : Name) (offset len : ℕ) → old.stage ≡ Stage.Moving moving
+StepsInMoves old token say step new = (moving : Moving) (place : Option Place) (pack : Name) (offset len : ℕ) → old.stage ≡ Stage.Moving moving place
     → StepsFrom old token (Ask.Range pack offset len) say step new
 
 abbrev pub KnowsInMoves : Prune → Prune → Type 0
-KnowsInMoves old new = (moving : Moving) (pack : Name) (offset len : ℕ) → old.stage ≡ Stage.Moving moving → KnowsAsMuch old (Ask.Range pack offset len) new
+KnowsInMoves old new = (moving : Moving) (place : Option Place) (pack : Name) (offset len : ℕ) → old.stage ≡ Stage.Moving moving place → KnowsAsMuch old (Ask.Range pack offset len) new
 
 abbrev pub EndsMoves : Prune → Token → Step → Prune → Type 0
-EndsMoves old token step new = (moving : Moving) → old.stage ≡ Stage.Moving moving → GoesTo (known_in old) token (HasMoved (known_in old) moving) step new
+EndsMoves old token step new = (moving : Moving) (place : Option Place) → old.stage ≡ Stage.Moving moving place → GoesTo (known_in old) token (HasMoved (known_in old) moving) step new
+
+-- where a copy came bad: the next one behind it is asked for; and it ends where there is none
+abbrev pub LooksBehind : List Fact → Fact → Step → Option Place → Type 0
+LooksBehind facts copy step (Some place) = IsNextPlace facts copy.kind copy.name copy.place place × (step ≡ Step.Ask (range_of (copy_at copy (Some place))))
+LooksBehind facts copy step None = IsLastPlace facts copy.kind copy.name copy.place × (step ≡ Step.Finish (Outcome.Ended (End.BadObject (blob_thing copy.kind) copy.name)))
 
 -- after its indexes were put
 abbrev pub EndsIndexes : Prune → Token → Step → Prune → Type 0

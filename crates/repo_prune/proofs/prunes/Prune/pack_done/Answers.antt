@@ -1,4 +1,4 @@
-use Rattle.std.proofs.Common.{◌≡◌, ◌∷◌, ◌++◌, [], List, refl, sym, ap, subst}
+use Rattle.std.proofs.Common.{◌≡◌, ◌∷◌, ◌++◌, [], List, None, refl, sym, ap, subst}
 use Rattle.std.proofs.lemmas.Result.{IfOk-weaker, on_err_weaker}
 use Rattle.repo_name.specs.declared.kinds.Kind.{Kind}
 use Rattle.repo_wire.specs.declared.messages.Ask.{Ask}
@@ -26,7 +26,7 @@ returns-in-Done-clause-steps c = IfOk-weaker c.finish_moves.result _ _ (λ step 
     let repacking = repacks_put k m known.puts known.put own e es ask refl known.repacking in
     let on = c.in_ok-moved.ensures.on (items_of puts) known.sealed known.moving in
     let done = rw c.in-Done.is at on in
-    let gone = goes c.next.new.self refl who (e ∷ es) w (all_moved k m c.next.new.self puts (e ∷ es) repacking c.next.ensures.moves c.next.ensures.target who c.args.token w done) in
+    let gone = goes c.next.new.self _ refl who (e ∷ es) w (all_moved k m c.next.new.self puts (e ∷ es) repacking c.next.ensures.moves c.next.ensures.target who c.args.token w done) in
     may_step c.finish_moves.new.self who e es step refl (λ part. absurd part) gone.0) c.finish_moves.ensures.steps
 
 -- where memory was wanting, the pack is being put as before
@@ -76,7 +76,7 @@ returns-in_default-2 c = record {
       let puts : List Put = known.puts ++ known.put ∷ [] in
       let repacking = repacks_put k m known.puts known.put own e es ask refl known.repacking in
       let on = c.in_ok-moved.ensures.on (items_of puts) known.sealed known.moving in
-      let new : Prune = record { snapshots = old.snapshots; catalog = old.catalog; packs = old.packs; stage = Stage.Moving c.next.new.self; target = old.target; alloc = old.alloc } in
+      let new : Prune = record { snapshots = old.snapshots; catalog = old.catalog; packs = old.packs; stage = Stage.Moving c.next.new.self None; target = old.target; alloc = old.alloc } in
       let got = received_on m c.next.new.self m.added c.next.new.self.added e es c.next.ensures.moves c.next.ensures.added refl known.received in
       may_step new who e es c.move_on.result refl (λ part. absurd part) (goes_on k m c.next.new.self puts (e ∷ es) repacking c.next.ensures.moves c.next.ensures.target who c.args.token w got c.in_ok-moved.moved c.move_on.result c.in_default-2.not-Done on c.move_on.ensures.on);
   short = c.move_on.ensures.short;
@@ -85,7 +85,7 @@ returns-in_default-2 c = record {
 
 pub returns-in_default : goal.returns-in_default
 returns-in_default c = record {
-  steps = λ own name x who es w obeys asked. (let m = pack_pending (known_in c.args.self.now) c.args.self.now.stage own name x es asked.knows in absurd (c.in_default.not-Moving m.0 m.1));
+  steps = λ own name x who es w obeys asked. (let m = pack_pending (known_in c.args.self.now) c.args.self.now.stage own name x es asked.knows in absurd (c.in_default.not-Moving m.0 m.1 m.2));
   short = tt;
   knows = tt;
 }

@@ -27,7 +27,7 @@ returns-in-Ask-clause-steps c = λ trees fact pack offset len is who es w obeys 
     let over = walk_more k known.texts t n f e es g.0 known.over known.awaits known.asks g.1 c.take_tree.ensures.roots in
     let new : Prune = record { snapshots = old.snapshots; catalog = old.catalog; packs = old.packs; stage = Stage.Walking n c.in-Ask.next; target = old.target; alloc = old.alloc } in
     let may = tree_asked k who c.args.token (e ∷ es) (known.texts ++ g.0 ∷ []) n c.in-Ask.next w over g.2 in
-    may_step new who e es (Step.Ask c.range_ask.result) refl (λ part. (f, known.wanted, (known.asks, g.0, g.1.bytes, g.1.long, g.1.named))) (subst (λ a. IsNextStep k who (Stage.Walking n c.in-Ask.next) (Step.Ask a) (e ∷ es)) (sym c.range_ask.ensures.ask) may)
+    may_step new who e es (Step.Ask c.range_ask.result) refl (λ part. (f, inl known.wanted, (known.asks, g.0, g.1.bytes, g.1.long, g.1.named))) (subst (λ a. IsNextStep k who (Stage.Walking n c.in-Ask.next) (Step.Ask a) (e ∷ es)) (sym c.range_ask.ensures.ask) may)
 
 pub returns-in-Done-clause-steps : goal.returns-in-Done-clause-steps
 returns-in-Done-clause-steps c = IfOk-weaker c.finish_trees.result _ _ (λ step goes trees fact pack offset len is who es w obeys asked.
@@ -43,7 +43,7 @@ returns-in-Done-clause-steps c = IfOk-weaker c.finish_trees.result _ _ (λ step 
     let n = c.take_tree.new.trees in
     let over = walk_more k known.texts t n f e es g.0 known.over known.awaits known.asks g.1 c.take_tree.ensures.roots in
     let gone = goes n f refl who (e ∷ es) w (record { texts = known.texts ++ g.0 ∷ []; over = over; walks = g.2.0; whole = g.2.1 }) in
-    may_step c.finish_trees.new.self who e es step refl (λ part. (f, known.wanted, (known.asks, g.0, g.1.bytes, g.1.long, g.1.named))) gone.0) c.finish_trees.ensures.steps
+    may_step c.finish_trees.new.self who e es step refl (λ part. (f, inl known.wanted, (known.asks, g.0, g.1.bytes, g.1.long, g.1.named))) gone.0) c.finish_trees.ensures.steps
 
 pub returns-in-Done-clause-knows : goal.returns-in-Done-clause-knows
 returns-in-Done-clause-knows c = on_err_weaker c.finish_trees.result (λ again trees fact pack offset len is es knows.
