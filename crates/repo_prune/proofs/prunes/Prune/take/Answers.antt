@@ -5,7 +5,7 @@ use Rattle.repo_session.specs.Jobs.{HeedsOn}
 use Rattle.repo_session.specs.Traces.{silent}
 use Rattle.repo_session.specs.Versions.{upto}
 use Rattle.repo_prune.specs.PruneStates.{StepsFrom}
-use Rattle.repo_prune.proofs.Heeding.{range_heeds}
+use Rattle.repo_prune.proofs.Heeding.{put_heeds, range_heeds}
 use Rattle.repo_prune.proofs.prunes.Prune.take.Goals as goal
 
 pub returns-in-Range-clause-steps : goal.returns-in-Range-clause-steps
@@ -21,3 +21,8 @@ pub returns-in-Range-clause-heeds : goal.returns-in-Range-clause-heeds
 returns-in-Range-clause-heeds c = IfOk-weaker c.take_range.result _ _ (λ step h who same es w obeys asked.
     let known = upto who.versions in
     subst (λ (a : Ask). HeedsOn known false (silent a c.args.say.now) step) (sym c.in-Range.is) (range_heeds known c.in-Range.pack c.in-Range.offset c.in-Range.length c.args.say.now step h)) c.take_range.ensures.heeds
+
+pub returns-in-Put-clause-heeds : goal.returns-in-Put-clause-heeds
+returns-in-Put-clause-heeds c = IfOk-weaker c.take_put.result _ _ (λ step h who same es w obeys asked.
+    let known = upto who.versions in
+    subst (λ (a : Ask). HeedsOn known false (silent a c.args.say.now) step) (sym c.in-Put.is) (put_heeds known _ _ _ _ c.args.say.now step h)) c.take_put.ensures.heeds
