@@ -13,7 +13,8 @@ use Rattle.repo_index.specs.Order.{place_cmp, places_total}
 use Rattle.repo_index.specs.declared.facts.Fact.{Fact}
 use Rattle.repo_wire.specs.declared.messages.Say.{Say}
 use Rattle.repo_session.specs.Blobs.{range_of, IsBadBlob}
-use Rattle.repo_session.specs.Traces.{Exchange, Trace}
+use Rattle.repo_session.specs.Traces.{Exchange, Trace, ReadFact}
+use Rattle.repo_session.proofs.Cataloguing.{fact_stays}
 use Rattle.repo_session.proofs.Descending.{received_grows}
 use Rattle.repo_writing.specs.Blobs.{HasFact}
 use Rattle.repo_prune.specs.PruneStates.{AreReceived, AwaitsCopy, HaveCome, IsTriedBefore}
@@ -36,7 +37,7 @@ few_later e es i j more h = record {
 }
 
 pub was_bad : (e : Exchange) (es : Trace) (copies : List Fact) → ((copy : Fact) → Contains copies copy → WasBad es copy) → (copy : Fact) → Contains copies copy → WasBad (e ∷ es) copy
-was_bad e es copies h copy among = let was = h copy among in (was.0, inr was.1, was.2)
+was_bad e es copies h copy among = let was = h copy among in (fact_stays e es copy was.0, (was.1.0, inr was.1.1, was.1.2))
 
 pub bad_later : (e : Exchange) (es : Trace) (facts copies : List Fact) → AreBadCopies es facts copies → AreBadCopies (e ∷ es) facts copies
 bad_later e es facts copies h = record { of = h.of; bad = was_bad e es copies h.bad; apart = h.apart }
@@ -74,12 +75,12 @@ tried_on before awaited copy place behind (inl has) = inl has
 tried_on before awaited copy place behind (inr (kind, name, less)) = inr (kind, name, places_total.trans copy.place awaited.place place less behind)
 
 -- it came bad, and the next one is awaited
-pub awaits_next : (e : Exchange) (es : Trace) (moves : List Fact) (count : ℕ) (awaited : Fact) (place : Place) (x : List ℕ) → e.ask ≡ range_of awaited → e.say ≡ Say.Bytes x → IsBadBlob awaited x
+pub awaits_next : (e : Exchange) (es : Trace) (moves : List Fact) (count : ℕ) (awaited : Fact) (place : Place) (x : List ℕ) → ReadFact es awaited → e.ask ≡ range_of awaited → e.say ≡ Say.Bytes x → IsBadBlob awaited x
     → ¬ HasFact (take count moves) awaited.kind awaited.name → place_cmp awaited.place place ≡ Less → AwaitsCopy es moves count awaited → AwaitsCopy (e ∷ es) moves count (fact_of awaited.kind awaited.name place)
-awaits_next e es moves count awaited place x is said bad first behind h =
+awaits_next e es moves count awaited place x read is said bad first behind h =
     let before : List Fact = take count moves in
     let next : Fact = fact_of awaited.kind awaited.name place in
-    let now : WasBad (e ∷ es) awaited = (x, inl (is, said), bad) in
+    let now : WasBad (e ∷ es) awaited = (fact_stays e es awaited read, (x, inl (is, said), bad)) in
     let one : parts_in e.ask ≡ 1 = ap parts_in is in
     let long = length-append h.copies (awaited ∷ []) in
     let more : parts_in e.ask + (count + length h.copies) ≡ count + length (h.copies ++ awaited ∷ []) = omega (arith, one, long) in
@@ -98,8 +99,8 @@ awaits_next e es moves count awaited place x is said bad first behind h =
         | inr last ↦ elim (contained_or awaited [] copy last) [ inl same ↦ subst (WasBad (e ∷ es)) same now | inr none ↦ absurd (none_contained copy none) ]
       ];
       apart = all_pairs_push (λ (a b : Fact). a ≢ b) h.copies awaited h.apart (λ i d within. (
-        let copy : Fact = get_or h.copies i d in
-        tried_other before awaited copy first (h.of copy (Contains-get_or h.copies i d within))));
+          let copy : Fact = get_or h.copies i d in
+          tried_other before awaited copy first (h.of copy (Contains-get_or h.copies i d within))));
       parts = few_later e es (count + length h.copies) (count + length (h.copies ++ awaited ∷ [])) more h.parts;
     }
 

@@ -522,7 +522,7 @@ module _ (k : Known) (m : Moving) (fact : Fact) (place : Option Place) (e : Exch
           awaits = h.awaits;
           asks = refl;
           wanted = inr follows;
-          received = awaits_next e es m.moves.items m.asked (copy_at fact place) next x h.asks said bad first is.behind h.received;
+          received = awaits_next e es m.moves.items m.asked (copy_at fact place) next x h.read h.asks said bad first is.behind h.received;
         };
       }
 
