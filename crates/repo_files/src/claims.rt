@@ -6,6 +6,7 @@ ghost use Rattle.repo_tree.specs.declared.configs.Config.{Config};
 
 use crate::folders::Folder;
 use crate::holding::HoldFile;
+use crate::identities::{Links, look};
 use crate::listings::entries_at_rest;
 use crate::own_names::{FOLDERS, LOCK, TEMPORARY};
 use crate::system::PRIVATE_FILE;
@@ -50,7 +51,7 @@ impl<R: Files + AllocGlobal + Clone + Drop> Folder<R> {
     /// Whether the file `config` reads as a config. No more of it is read than the longest config has.
     fn has_config_text(&self) -> io::Result<bool> {
         let path = self.path("", CONFIG)?;
-        if fs::metadata(&self.rt, path.as_str())?.len() > TEXT_LIMIT as u64 {
+        if look(&self.rt, path.as_str(), Links::Followed)?.len() > TEXT_LIMIT as u64 {
             return Ok(false);
         }
         let text = fs::read(&self.rt, path.as_str())?;
@@ -101,7 +102,7 @@ impl<R: Files + AllocGlobal + Clone + Drop> Folder<R> {
     /// Whether a file has this name, or a link to one.
     fn has_file(&self, name: &str) -> io::Result<bool> {
         let path = self.path("", name)?;
-        match fs::metadata(&self.rt, path.as_str()) {
+        match look(&self.rt, path.as_str(), Links::Followed) {
             Ok(found) => Ok(found.is_file()),
             Err(error) if error.kind() == ErrorKind::NotFound => Ok(false),
             Err(error) => Err(error),
@@ -111,7 +112,7 @@ impl<R: Files + AllocGlobal + Clone + Drop> Folder<R> {
     /// What has this name.
     fn sort_of(&self, name: &str) -> io::Result<Sort> {
         let path = self.path("", name)?;
-        match fs::symlink_metadata(&self.rt, path.as_str()) {
+        match look(&self.rt, path.as_str(), Links::NotFollowed) {
             Ok(found) if found.is_file() => Ok(Sort::File),
             Ok(found) if found.is_dir() => Ok(Sort::Folder),
             Ok(_) => Ok(Sort::Other),

@@ -1,8 +1,11 @@
 //! Files that are written under another name until they are whole.
 
+use crate::identities::{Links, look};
+use crate::system::{remove_file, rename};
+use std::alloc::{AllocError, Global};
 use std::fs::{File, Files};
+use std::io;
 use std::io::{ErrorKind, Write};
-use std::{fs, io};
 
 /// A file that is being written.
 #[derive(Drop)]
@@ -16,12 +19,19 @@ pub struct Draft<F> {
     pub length: u64,
 }
 
-/// A file that stands in its place, and is held open by the handle that wrote it, until that is synced.
+/// A file that has its name.
 #[derive(Drop)]
-pub struct Written<F> {
-    pub file: F,
+pub struct Placed {
+    pub place: String,
     /// How many bytes were written to it.
     pub length: u64,
+}
+
+/// A file that has its name, and is held open by the handle that wrote it, until that is synced.
+#[derive(Drop)]
+pub struct Written<F> {
+    pub handle: F,
+    pub placed: Placed,
 }
 
 /// Adds bytes to the file. On an error it is removed.
@@ -47,8 +57,11 @@ pub fn settle<R: Files>(rt: &R, draft: Draft<R::File>) -> io::Result<Written<R::
     begin_writing_out(rt, &draft);
     match give_name(rt, &draft) {
         Ok(()) => Ok(Written {
-            file: draft.file,
-            length: draft.length,
+            handle: draft.file,
+            placed: Placed {
+                place: draft.place,
+                length: draft.length,
+            },
         }),
         Err(error) => {
             remove(rt, draft);
@@ -69,10 +82,10 @@ fn begin_writing_out<R: Files>(rt: &R, draft: &Draft<R::File>) {
 
 /// Gives the file its name, which nothing has.
 fn give_name<R: Files>(rt: &R, draft: &Draft<R::File>) -> io::Result<()> {
-    match fs::symlink_metadata(rt, draft.place.as_str()) {
+    match look(rt, draft.place.as_str(), Links::NotFollowed) {
         Ok(_) => Err(io::Error::from(ErrorKind::AlreadyExists)),
         Err(error) if error.kind() == ErrorKind::NotFound => {
-            fs::rename(rt, draft.temporary.as_str(), draft.place.as_str())
+            rename(rt, draft.temporary.as_str(), draft.place.as_str())
         }
         Err(error) => Err(error),
     }
@@ -80,5 +93,25 @@ fn give_name<R: Files>(rt: &R, draft: &Draft<R::File>) -> io::Result<()> {
 
 /// Removes the file, as far as that can be done.
 pub fn remove<R: Files>(rt: &R, draft: Draft<R::File>) {
-    let _ = fs::remove_file(rt, draft.temporary.as_str());
+    let _ = remove_file(rt, draft.temporary.as_str());
+}
+
+/// Closes these files.
+pub fn close<F: Drop>(alloc: Global, files: Vec<Written<F>>) -> Result<Vec<Placed>, AllocError> {
+    let mut closed = Vec::new(alloc);
+    for file in files {
+        closed.push(file.placed)?;
+    }
+    Ok(closed)
+}
+
+impl Placed {
+    /// Checks that the file has the length that was written to it.
+    pub fn check_length<R: Files>(&self, rt: &R) -> io::Result<()> {
+        let found = look(rt, self.place.as_str(), Links::NotFollowed)?;
+        if found.len() != self.length {
+            return Err(io::Error::from(ErrorKind::Other));
+        }
+        Ok(())
+    }
 }

@@ -5,15 +5,19 @@ ghost use Rattle.repo_disk.specs.Disks.{HasCause};
 
 use crate::folders::{Folder, sync_at};
 use crate::holding::HoldFile;
+use crate::identities::{Links, look};
+use crate::listings::list;
 use crate::rooms::{Rooms, path_in};
-use crate::system::{if_there, make_folder, names_in, read_file, read_part, write_file};
+use crate::system::{
+    if_there, make_folder, names_in, read_file, read_part, remove_file, rename, write_file,
+};
 use repo_disk::{Disk, DiskError, Part, Room};
 use repo_folder::is_draft;
 use repo_name::{Bytes, Text};
 use std::alloc::{AllocError, AllocGlobal, Global};
 use std::fs::{Files, OpenFile};
+use std::io;
 use std::io::ErrorKind;
-use std::{fs, io};
 
 /// A store's folder as a disk: each call is one or two calls of the system. It holds the folder until it is dropped: no
 /// other program writes there meanwhile.
@@ -60,15 +64,20 @@ impl<R: Files + AllocGlobal + Clone + Drop> FileDisk<R> {
     /// Removes what writes that were cut off left among the files that are being written, as far as that can be done:
     /// files of the names that a shelf gives while it writes, and no others.
     pub fn clean(&self) {
-        let Ok(entries) = fs::read_dir(&self.rt, self.rooms.path(Room::Temporary)) else {
+        let Ok(listing) = list(&self.rt, self.rooms.path(Room::Temporary)) else {
             return;
         };
-        for entry in entries {
-            if let Ok(entry) = entry
-                && is_draft(entry.file_name())
-            {
-                let _ = fs::remove_file(&self.rt, entry.path());
+        for name in &listing.names {
+            if is_draft(name.as_str()) {
+                self.remove_draft(name.as_str());
             }
+        }
+    }
+
+    /// Removes a file that is being written, as far as that can be done.
+    fn remove_draft(&self, name: &str) {
+        if let Ok(path) = self.path(Room::Temporary, name) {
+            let _ = remove_file(&self.rt, path.as_str());
         }
     }
 
@@ -120,8 +129,8 @@ impl<R: Files + AllocGlobal + Clone + Drop> Disk for FileDisk<R> {
 
     fn has(&mut self, room: Room, name: &str) -> Result<bool, DiskError> {
         let path = self.path(room, name)?;
-        let is_there = fs::exists(&self.rt, path.as_str());
-        self.told(is_there)
+        let found = if_there(look(&self.rt, path.as_str(), Links::Followed));
+        Ok(self.told(found)?.is_some())
     }
 
     fn read_part(
@@ -160,21 +169,19 @@ impl<R: Files + AllocGlobal + Clone + Drop> Disk for FileDisk<R> {
     }
 
     fn discard(&mut self, name: &str) {
-        if let Ok(path) = self.path(Room::Temporary, name) {
-            let _ = fs::remove_file(&self.rt, path.as_str());
-        }
+        self.remove_draft(name);
     }
 
     fn place(&mut self, draft: &str, room: Room, name: &str) -> Result<(), DiskError> {
         let from = self.path(Room::Temporary, draft)?;
         let to = self.path(room, name)?;
-        let renamed = fs::rename(&self.rt, from.as_str(), to.as_str());
+        let renamed = rename(&self.rt, from.as_str(), to.as_str());
         self.made(renamed)
     }
 
     fn unlink(&mut self, room: Room, name: &str) -> Result<bool, DiskError> {
         let path = self.path(room, name)?;
-        let removed = if_there(fs::remove_file(&self.rt, path.as_str()));
+        let removed = if_there(remove_file(&self.rt, path.as_str()));
         Ok(self.made(removed)?.is_some())
     }
 

@@ -1,10 +1,12 @@
 //! A folder by its path, and its making.
 
+use crate::identities::{Links, look};
+use crate::interruptions::retry_interrupted;
 use std::alloc::{AllocError, AllocGlobal};
 use std::fs::{DirBuilder, File, Files, OpenFile};
+use std::io;
 use std::io::ErrorKind;
 use std::os::unix::fs::DirBuilderExt;
-use std::{fs, io};
 
 /// Whether it is an error that a folder can't be synced because of its file system or its mode.
 #[derive(Clone, Copy, Debug, PartialEq, Eq)]
@@ -76,7 +78,7 @@ fn names_nothing(rest: &str) -> bool {
 
 /// Whether a folder of this path is there.
 pub fn is_folder<R: Files>(rt: &R, path: &str) -> bool {
-    match fs::metadata(rt, path) {
+    match look(rt, path, Links::Followed) {
         Ok(found) => found.is_dir(),
         Err(_) => false,
     }
@@ -113,15 +115,20 @@ fn says_no_sync(kind: ErrorKind) -> bool {
     kind == ErrorKind::InvalidInput || kind == ErrorKind::Unsupported
 }
 
+/// Makes a folder with this mode.
+fn make_folder_with<R: Files>(rt: &R, path: &str, mode: u32) -> io::Result<()> {
+    retry_interrupted(|| DirBuilder::new().mode(mode).create(rt, path))
+}
+
 /// Makes a folder into which its owner alone may look.
 pub fn make_private<R: Files>(rt: &R, path: &str) -> io::Result<()> {
-    DirBuilder::new().mode(PRIVATE).create(rt, path)
+    make_folder_with(rt, path, PRIVATE)
 }
 
 /// Makes a folder with this mode, where it isn't there, and syncs the one that it stands in, so that its name lasts. Where it
 /// was there already, and the one that it stands in can't be synced, that is let be.
 fn make_named<R: Files>(rt: &R, path: &str, mode: u32, sync: FolderSync) -> io::Result<()> {
-    match DirBuilder::new().mode(mode).create(rt, path) {
+    match make_folder_with(rt, path, mode) {
         Ok(()) => sync_folder(rt, parent_of(path), sync),
         Err(error) if !is_folder(rt, path) => Err(error),
         Err(_) => {

@@ -4,8 +4,9 @@ ghost use Rattle.std.specs.Prelude.{◌≡◌, IfOk, OnOk, string_bytes};
 ghost use Rattle.repo_files.specs.inner.Places.{place_of};
 ghost use Rattle.repo_tree.specs.Paths.{IsPath};
 
-use crate::drafts::{Draft, Written};
+use crate::drafts::{Draft, Placed, Written, close};
 use crate::folders::{Folder, FolderSync, make_private, sync_folder};
+use crate::identities::{Links, look};
 use crate::listings::entries_at_rest;
 use crate::places::{place_below, place_in, without_slash};
 use crate::safe_targets::is_safe_target;
@@ -15,7 +16,7 @@ use std::alloc::{AllocError, AllocGlobal};
 use std::fs::{Files, OpenFile, OpenOptions};
 use std::io::ErrorKind;
 use std::os::unix::fs::OpenOptionsExt;
-use std::{fs, io, mem};
+use std::{io, mem};
 
 /// What a temporary name begins with; a number follows.
 const TEMPORARY: &str = "!restoring-";
@@ -30,7 +31,7 @@ const MOST_BYTES: u64 = 64 << 20;
 
 /// Whether the folder of this path is empty, has a directory `lost+found` alone, or isn't there.
 fn is_empty<R: Files + AllocGlobal + Clone + Drop>(rt: &R, path: &str) -> io::Result<bool> {
-    if if_there(fs::metadata(rt, path))?.is_none() {
+    if if_there(look(rt, path, Links::Followed))?.is_none() {
         return Ok(true);
     }
     let found = entries_at_rest(rt, path)?;
@@ -47,7 +48,15 @@ fn is_empty<R: Files + AllocGlobal + Clone + Drop>(rt: &R, path: &str) -> io::Re
 
 /// Whether a path leads to a directory, and to no link.
 fn is_directory<R: Files>(rt: &R, path: &str) -> io::Result<bool> {
-    Ok(fs::symlink_metadata(rt, path)?.is_dir())
+    Ok(look(rt, path, Links::NotFollowed)?.is_dir())
+}
+
+/// Checks that each of these files, which were closed, has the length that was written to it.
+fn check_lengths<R: Files>(rt: &R, files: &[Placed]) -> io::Result<()> {
+    for file in files {
+        file.check_length(rt)?;
+    }
+    Ok(())
 }
 
 /// The folder that is restored into.
@@ -62,8 +71,8 @@ pub struct Ground<R: Files> {
     number: u64,
     /// The places of all directories that were made, which are synced at the end: the folder's own, and those in it.
     directories: Vec<String>,
-    /// The files that were written and aren't synced yet, by the handles that wrote them.
-    files: Vec<R::File>,
+    /// The files that were written and aren't synced yet.
+    files: Vec<Written<R::File>>,
     /// How many bytes were written to these.
     bytes: u64,
 }
@@ -141,24 +150,27 @@ impl<R: Files + AllocGlobal + Clone + Drop> Ground<R> {
     /// Keeps a file until it is synced. Once 100 files are kept, or 64 MiB were written to them, all of these are synced.
     ///
     /// Each is synced by the handle that wrote it. A file system may report to that handle alone that it didn't keep what it took. A
-    /// handle that is opened later gets no error then. An error of `close` isn't seen: the kit drops it.
-    pub fn keep(&mut self, written: Written<R::File>) -> io::Result<()> {
-        self.files.push(written.file)?;
-        self.bytes = self.bytes.saturating_add(written.length);
+    /// handle that is opened later gets no error then.
+    pub fn keep(&mut self, file: Written<R::File>) -> io::Result<()> {
+        self.bytes = self.bytes.saturating_add(file.placed.length);
+        self.files.push(file)?;
         if self.files.len() >= MOST_FILES || self.bytes >= MOST_BYTES {
             self.sync_files()?;
         }
         Ok(())
     }
 
-    /// Syncs the files that are kept, and closes them.
+    /// Syncs the files that are kept, closes them, and checks their lengths.
+    ///
+    /// A file system may answer the sync that it kept all bytes, and report only at the close that it didn't. The kit drops the error of
+    /// a close. The file is shorter then, or away.
     fn sync_files(&mut self) -> io::Result<()> {
         self.bytes = 0;
         let files = mem::replace(&mut self.files, Vec::new(self.rt.alloc()));
         for file in &files {
-            file.sync_all()?;
+            file.handle.sync_all()?;
         }
-        Ok(())
+        check_lengths(&self.rt, close(self.rt.alloc(), files)?.as_slice())
     }
 
     /// Syncs all that was made and isn't synced yet, so that it lasts: the files, and then the directories.
@@ -180,9 +192,9 @@ impl<R: Files + AllocGlobal + Clone + Drop> Ground<R> {
             .open(&self.rt, path)
     }
 
-    /// The same. If it can't be made while files are kept, these are synced and closed, and it is tried once more: the process may have
-    /// too many open files.
-    fn create_in_any_case(&mut self, path: &str) -> io::Result<R::File> {
+    /// Makes a file as `create` does. If it can't be made while files are kept, these are synced and closed, and it is tried once more: the
+    /// process may have too many open files.
+    fn create_after_sync(&mut self, path: &str) -> io::Result<R::File> {
         match self.create(path) {
             Err(error) if error.kind() != ErrorKind::AlreadyExists && !self.files.is_empty() => {
                 self.sync_files()?;
@@ -207,7 +219,7 @@ impl<R: Files + AllocGlobal + Clone + Drop> Ground<R> {
             if temporary.as_str() == place.as_str() {
                 continue;
             }
-            match self.create_in_any_case(temporary.as_str()) {
+            match self.create_after_sync(temporary.as_str()) {
                 Ok(file) => {
                     let _ = file.set_len(0);
                     return Ok(Draft {

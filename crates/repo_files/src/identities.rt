@@ -1,5 +1,6 @@
 //! Which file or folder a path leads to.
 
+use crate::interruptions::retry_interrupted;
 use std::alloc::AllocGlobal;
 use std::fs::{Files, Metadata};
 use std::io::ErrorKind;
@@ -33,8 +34,8 @@ pub enum Links {
 /// Looks at what a path leads to.
 pub fn look<R: Files>(rt: &R, path: &str, links: Links) -> io::Result<Metadata> {
     match links {
-        Links::Followed => fs::metadata(rt, path),
-        Links::NotFollowed => fs::symlink_metadata(rt, path),
+        Links::Followed => retry_interrupted(|| fs::metadata(rt, path)),
+        Links::NotFollowed => retry_interrupted(|| fs::symlink_metadata(rt, path)),
     }
 }
 
@@ -53,7 +54,7 @@ pub fn check_stays<R: Files + AllocGlobal>(
         return Err(io::Error::from(ErrorKind::NotFound));
     }
     if found.nlink() == 0 {
-        fs::canonicalize(rt, path)?;
+        retry_interrupted(|| fs::canonicalize(rt, path))?;
     }
     Ok(())
 }

@@ -43,6 +43,7 @@ mod folders;
 mod grounds;
 mod holding;
 mod identities;
+mod interruptions;
 mod listings;
 mod own_names;
 mod phases;

@@ -5,6 +5,7 @@
 //! behind that.
 
 use crate::identities::{Identity, Links, check_stays, look};
+use crate::interruptions::retry_interrupted;
 use std::alloc::AllocGlobal;
 use std::fs::Files;
 use std::io::ErrorKind;
@@ -13,18 +14,18 @@ use std::{fs, io};
 /// The entries of a directory.
 #[derive(Drop)]
 pub struct Listing {
-    /// The names, ascending, each once.
+    /// The names.
     pub names: Vec<String>,
     /// How many names aren't UTF-8.
     pub unnamed: u64,
 }
 
-/// Adds the names that one listing of a directory gives, and returns how many aren't UTF-8.
-fn add_names<R: Files + AllocGlobal + Clone + Drop>(
+/// Lists a directory once, until an error of the system. The names come in its order.
+fn list_until_error<R: Files + AllocGlobal + Clone + Drop>(
     rt: &R,
     path: &str,
-    names: &mut Vec<String>,
-) -> io::Result<u64> {
+) -> io::Result<Listing> {
+    let mut names = Vec::new(rt.alloc());
     let mut unnamed = 0u64;
     for entry in fs::read_dir(rt, path)? {
         match entry {
@@ -35,7 +36,12 @@ fn add_names<R: Files + AllocGlobal + Clone + Drop>(
             Err(error) => return Err(error),
         }
     }
-    Ok(unnamed)
+    Ok(Listing { names, unnamed })
+}
+
+/// Lists a directory once. The names come in the system's order. A listing that is interrupted is begun anew.
+pub fn list<R: Files + AllocGlobal + Clone + Drop>(rt: &R, path: &str) -> io::Result<Listing> {
+    retry_interrupted(|| list_until_error(rt, path))
 }
 
 /// The names, ascending, each once.
@@ -46,7 +52,7 @@ fn sorted(mut names: Vec<String>) -> Vec<String> {
 }
 
 /// The entries of a directory that other programs may change meanwhile: the names that either of two listings gives. So a name is
-/// missing only if both listings lack it. `directory` is what the path led to before. If it leads to another directory behind the
+/// missing only if both listings lack it. They come ascending, each once. `directory` is what the path led to before. If it leads to another directory behind the
 /// listings, or the directory was removed, the error is of the kind `NotFound`.
 pub fn entries_in<R: Files + AllocGlobal + Clone + Drop>(
     rt: &R,
@@ -54,30 +60,31 @@ pub fn entries_in<R: Files + AllocGlobal + Clone + Drop>(
     links: Links,
     directory: Identity,
 ) -> io::Result<Listing> {
-    let mut names = Vec::new(rt.alloc());
-    let unnamed = add_names(rt, path, &mut names)?;
-    let again = add_names(rt, path, &mut names)?;
+    let Listing { mut names, unnamed } = list(rt, path)?;
+    let mut again = list(rt, path)?;
     check_stays(rt, path, links, directory)?;
+    names.append(&mut again.names)?;
     Ok(Listing {
         names: sorted(names),
-        unnamed: unnamed.max(again),
+        unnamed: unnamed.max(again.unnamed),
     })
 }
 
-/// The entries of a directory that no other program changes. Two listings have to give the same entries, and the directory has to be
+/// The entries of a directory that no other program changes, ascending. Two listings have to give the same entries, and the directory has to be
 /// there behind them: else this is an error.
 pub fn entries_at_rest<R: Files + AllocGlobal + Clone + Drop>(
     rt: &R,
     path: &str,
 ) -> io::Result<Listing> {
     let directory = Identity::of(&look(rt, path, Links::Followed)?);
-    let (mut names, mut again) = (Vec::new(rt.alloc()), Vec::new(rt.alloc()));
-    let unnamed = add_names(rt, path, &mut names)?;
-    let unnamed_again = add_names(rt, path, &mut again)?;
-    let (names, again) = (sorted(names), sorted(again));
-    if names.as_slice() != again.as_slice() || unnamed != unnamed_again {
+    let (listing, again) = (list(rt, path)?, list(rt, path)?);
+    let (names, names_again) = (sorted(listing.names), sorted(again.names));
+    if names.as_slice() != names_again.as_slice() || listing.unnamed != again.unnamed {
         return Err(io::Error::from(ErrorKind::Other));
     }
     check_stays(rt, path, Links::Followed, directory)?;
-    Ok(Listing { names, unnamed })
+    Ok(Listing {
+        names,
+        unnamed: listing.unnamed,
+    })
 }

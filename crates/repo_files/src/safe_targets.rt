@@ -3,6 +3,8 @@
 ghost use Rattle.std.specs.Prelude.{◌≡◌, ◌≢◌, ◌↔◌, ◌⊎◌, IsTrue, bit_and};
 
 use crate::folders::parent_of;
+use crate::identities::{Links, look};
+use crate::interruptions::retry_interrupted;
 use crate::system::if_there;
 use std::alloc::AllocGlobal;
 use std::fs::{Files, Metadata};
@@ -36,7 +38,7 @@ fn is_shut(owner: u32, mode: u32) -> bool
 
 /// Whether root runs this program, or who does can't be known, since `/proc` isn't there.
 fn may_be_root<R: Files>(rt: &R) -> bool {
-    match fs::metadata(rt, "/proc/self") {
+    match look(rt, "/proc/self", Links::Followed) {
         Ok(found) => found.uid() == ROOT,
         Err(_) => true,
     }
@@ -47,13 +49,13 @@ fn whole_path<R: Files + AllocGlobal>(rt: &R, path: &str) -> io::Result<String> 
     if path.starts_with('/') {
         return Ok(String::from_str(rt.alloc(), path)?);
     }
-    let here = fs::canonicalize(rt, ".")?;
+    let here = retry_interrupted(|| fs::canonicalize(rt, "."))?;
     Ok(format!(in rt.alloc(); "{}/{path}", here.as_str())?)
 }
 
 /// The path by which a way goes on from a link, behind which `rest` stands.
 fn behind_link<R: Files + AllocGlobal>(rt: &R, link: &str, rest: &str) -> io::Result<String> {
-    let to = fs::read_link(rt, link)?;
+    let to = retry_interrupted(|| fs::read_link(rt, link))?;
     if to.as_str().starts_with('/') {
         return Ok(format!(in rt.alloc(); "{}{rest}", to.as_str())?);
     }
@@ -74,7 +76,7 @@ fn way_of<R: Files + AllocGlobal>(rt: &R, path: &str) -> io::Result<Way> {
         if let Some((place, rest)) = path.split_at_checked(end)
             && (rest.is_empty() || rest.starts_with('/'))
         {
-            let Some(found) = if_there(fs::symlink_metadata(rt, place))? else {
+            let Some(found) = if_there(look(rt, place, Links::NotFollowed))? else {
                 return Ok(Way::Safe);
             };
             if !is_shut_place(&found) {
@@ -104,7 +106,7 @@ pub fn is_safe_target<R: Files + AllocGlobal>(rt: &R, folder: &str) -> io::Resul
     if !may_be_root(rt) {
         return Ok(true);
     }
-    if !is_shut_place(&fs::symlink_metadata(rt, "/")?) {
+    if !is_shut_place(&look(rt, "/", Links::NotFollowed)?) {
         return Ok(false);
     }
     let mut path = whole_path(rt, folder)?;

@@ -4,6 +4,7 @@ ghost use Rattle.std.specs.Prelude.{IfOk};
 ghost use Rattle.repo_disk.specs.Disks.{HasLength};
 
 use crate::folders::{is_folder, make_private};
+use crate::interruptions::retry_interrupted;
 use crate::listings::entries_at_rest;
 use repo_disk::Part;
 use repo_name::{Bytes, Text};
@@ -45,7 +46,7 @@ pub fn read_part<R: Files + AllocGlobal>(
     let Some(mut file) = if_there(File::open(rt, path))? else {
         return Ok(Part::Missing);
     };
-    let size = file.metadata()?.len();
+    let size = retry_interrupted(|| file.metadata())?.len();
     if size < offset as u64 + length as u64 {
         return Ok(Part::Outside);
     }
@@ -78,6 +79,16 @@ pub fn write_file<R: Files>(rt: &R, path: &str, bytes: &[u8]) -> io::Result<R::F
         .open(rt, path)?;
     file.write_all(bytes)?;
     Ok(file)
+}
+
+/// Removes a file.
+pub fn remove_file<R: Files>(rt: &R, path: &str) -> io::Result<()> {
+    retry_interrupted(|| fs::remove_file(rt, path))
+}
+
+/// Gives a file another path. A file that has it is replaced.
+pub fn rename<R: Files>(rt: &R, from: &str, to: &str) -> io::Result<()> {
+    retry_interrupted(|| fs::rename(rt, from, to))
 }
 
 /// Makes a folder that its owner alone may look into, where it isn't there.

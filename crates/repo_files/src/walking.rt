@@ -3,22 +3,37 @@
 ghost use Rattle.std.specs.Prelude.{◌≡◌, ◌≤◌, ◌++◌, ◌∷◌, [], ℕ, false, IfOk, IfErr, IfSome, OnOk, OnErr, length};
 ghost use Rattle.repo_feeding.specs.Sources.{FitsRoom};
 
-use crate::identities::{Identity, Links, look};
-use crate::listings::entries_in;
+use crate::identities::{Identity, Links, check_stays, look};
+use crate::interruptions::retry_interrupted;
+use crate::listings::{Listing, entries_in};
 use crate::places::{place_in, without_slash};
 use crate::walk_ends::{Skipped, WalkError, told, unreadable};
 use repo_feeding::{Found, Source};
 use repo_tree::is_component;
 use std::alloc::{AllocError, AllocGlobal, Global};
 use std::fs::{File, Files, Metadata, OpenFile};
+use std::io;
 use std::io::{ErrorKind, Read};
-use std::{fs, io};
 
-/// A directory that is open, by its place, and the names in it that are left, the next one last.
+/// A directory that is open: its place, whether a link there is followed, which directory it is, and the names in it that are left, the
+/// next one last.
 #[derive(Drop)]
 struct Level {
     place: String,
+    links: Links,
+    directory: Identity,
     names: Vec<String>,
+}
+
+impl Level {
+    /// Its path. The place of the root is empty.
+    fn path(&self) -> &str {
+        if self.place.is_empty() {
+            "/"
+        } else {
+            self.place.as_str()
+        }
+    }
 }
 
 /// A directory that is to be listed: its path, the place that stands before the names in it, whether a link at the path is followed,
@@ -53,10 +68,12 @@ struct OpenedFile<F> {
 /// behind that isn't read. One that ends before that length can't be read.
 ///
 /// A directory is listed twice, and what either listing has is taken. It can't be read if its path leads to something else behind
-/// that than before: so neither a link that was put in its place is followed, nor one that was removed taken for an empty one.
+/// that than before: so neither a link that was put in its place is followed, nor one that was removed taken for an empty one. Its path
+/// is looked at again behind each opening of an entry. If it leads elsewhere then, the entry can't be read: so nothing of another
+/// directory is taken that was put in its place after it was listed.
 ///
-/// The walk doesn't notice a directory that is exchanged for a link, and exchanged back, while it is listed. It doesn't notice either
-/// that a directory is exchanged after it was listed. The kit opens a file by its path alone, and has no flags: the opening follows
+/// The walk doesn't notice a directory that is exchanged, and exchanged back, while it is listed, or while an entry is opened. The kit
+/// opens a file by its path alone, and has no flags: the opening follows
 /// links, and waits for a writer of a pipe. If a file is replaced by a pipe between the look at it and its opening, the walk waits. If
 /// it is replaced by a device, the walk opens the device, and closes it.
 #[derive(Drop)]
@@ -112,8 +129,7 @@ impl<'a, R: Files + AllocGlobal + Clone + Drop> FolderWalk<'a, R> {
     {
         let alloc = self.rt.alloc();
         let Directory { word, place, .. } = *directory;
-        let listed = entries_in(self.rt, word, directory.links, directory.found);
-        let mut listing = match listed {
+        let mut listing = match self.list(directory) {
             Ok(listing) => listing,
             Err(error) => return Err(told(alloc, word, &error)),
         };
@@ -125,9 +141,45 @@ impl<'a, R: Files + AllocGlobal + Clone + Drop> FolderWalk<'a, R> {
         listing.names.reverse();
         self.add_level(Level {
             place: String::from_str(alloc, place)?,
+            links: directory.links,
+            directory: directory.found,
             names: listing.names,
         })?;
         Ok(())
+    }
+
+    /// The entries of a directory. The directory in which it stands has to be where it was, behind the listing.
+    fn list(&self, directory: &Directory<'_>) -> io::Result<Listing> {
+        let Directory {
+            word,
+            links,
+            found,
+            ..
+        } = *directory;
+        let listing = entries_in(self.rt, word, links, found)?;
+        self.check_level()?;
+        Ok(listing)
+    }
+
+    /// Checks that the path of the directory that was opened last still leads to it. So what was opened in it before this check is its
+    /// own.
+    fn check_level(&self) -> io::Result<()> {
+        match self.levels.last() {
+            Some(level) => check_stays(self.rt, level.path(), level.links, level.directory),
+            None => Ok(()),
+        }
+    }
+
+    /// Opens a file in the directory that was opened last, if it is the very file that was looked at: nothing was put in its place, or
+    /// in the place of the directory. Returns the file and its length.
+    fn open_file(&self, place: &str, found: &Metadata) -> io::Result<(R::File, u64)> {
+        let file = File::open(self.rt, place)?;
+        let opened = retry_interrupted(|| file.metadata())?;
+        if !opened.is_file() || Identity::of(&opened) != Identity::of(found) {
+            return Err(io::Error::from(ErrorKind::Other));
+        }
+        self.check_level()?;
+        Ok((file, opened.len()))
     }
 
     /// Adds an open directory.
@@ -186,7 +238,7 @@ impl<'a, R: Files + AllocGlobal + Clone + Drop> FolderWalk<'a, R> {
         ensures fits { IfOk result (λ entered. IfSome entered (λ found. (room : ℕ) → FitsRoom room found)) }
         ensures failed { self.new.failed ≡ self.old.failed }
     {
-        let found = match fs::symlink_metadata(self.rt, place.as_str()) {
+        let found = match look(self.rt, place.as_str(), Links::NotFollowed) {
             Ok(found) => found,
             Err(error) => return Err(told(self.rt.alloc(), place.as_str(), &error)),
         };
@@ -201,10 +253,10 @@ impl<'a, R: Files + AllocGlobal + Clone + Drop> FolderWalk<'a, R> {
             return Ok(Some(Found::Dir(name)));
         }
         if !found.is_file() {
-            self.skip(Skipped::Other(place))?;
+            self.leave_out(place)?;
             return Ok(None);
         }
-        match open_file(self.rt, place.as_str(), &found) {
+        match self.open_file(place.as_str(), &found) {
             Ok((file, length)) => {
                 self.file = Some(OpenedFile {
                     file,
@@ -216,6 +268,17 @@ impl<'a, R: Files + AllocGlobal + Clone + Drop> FolderWalk<'a, R> {
             }
             Err(error) => Err(told(self.rt.alloc(), place.as_str(), &error)),
         }
+    }
+
+    /// Leaves out what is neither a directory nor a file.
+    fn leave_out(&mut self, place: String) -> Result<(), WalkError>
+        ensures { self.new.failed ≡ self.old.failed }
+    {
+        if let Err(error) = self.check_level() {
+            return Err(told(self.rt.alloc(), place.as_str(), &error));
+        }
+        self.skip(Skipped::Other(place))?;
+        Ok(())
     }
 
     /// What comes next: more of the open file, else an entry.
@@ -247,16 +310,6 @@ fn are_possible(alloc: Global, place: &str, names: &[String]) -> Result<(), Walk
         }
     }
     Ok(())
-}
-
-/// Opens a file, where it is the very file that was looked at: nothing was put in its place since. It gives its length.
-fn open_file<R: Files>(rt: &R, place: &str, found: &Metadata) -> io::Result<(R::File, u64)> {
-    let file = File::open(rt, place)?;
-    let opened = file.metadata()?;
-    if !opened.is_file() || Identity::of(&opened) != Identity::of(found) {
-        return Err(io::Error::from(ErrorKind::Other));
-    }
-    Ok((file, opened.len()))
 }
 
 impl<F: Read> OpenedFile<F> {
