@@ -20,6 +20,17 @@ impl<'a> Cut<'a> {
     pub(crate) fn new(inner: HostRuntime, fuse: &'a Fuse) -> Cut<'a> {
         Cut { inner, fuse }
     }
+
+    /// Where a path leads.
+    fn place(&self, path: &str) -> io::Result<String> {
+        let alloc = self.fuse.alloc;
+        match path.rsplit_once("/d/e") {
+            Some((above, below)) if self.fuse.has_other_folder() => {
+                Ok(format!(in alloc; "{above}/other{below}")?)
+            }
+            _ => Ok(String::from_str(alloc, path)?),
+        }
+    }
 }
 
 /// A file of a [`Cut`]. Its syncs are noted, and not made.
@@ -32,14 +43,15 @@ pub struct CutFile<'a> {
 
 impl Read for CutFile<'_> {
     fn read(&mut self, buffer: &mut [u8]) -> io::Result<usize> {
-        self.fuse.burn(What::Look, self.path.as_str())?;
+        self.fuse.burn_or_interrupt(What::Look, self.path.as_str())?;
         self.inner.read(buffer)
     }
 }
 
 impl Write for CutFile<'_> {
     fn write(&mut self, buffer: &[u8]) -> io::Result<usize> {
-        self.fuse.burn(What::Write, self.path.as_str())?;
+        self.fuse
+            .burn_or_interrupt(What::Write, self.path.as_str())?;
         self.inner.write(buffer)
     }
 
@@ -56,7 +68,7 @@ impl Seek for CutFile<'_> {
 
 impl OpenFile for CutFile<'_> {
     fn metadata(&self) -> io::Result<Metadata> {
-        self.fuse.burn(What::Look, self.path.as_str())?;
+        self.fuse.burn_or_interrupt(What::Look, self.path.as_str())?;
         self.inner.metadata()
     }
 
@@ -96,7 +108,7 @@ impl<'a> Files for Cut<'a> {
 
     fn open_file(&self, how: &OpenOptions, path: &str) -> io::Result<CutFile<'a>> {
         self.fuse.burn(What::Look, path)?;
-        let mut path = String::from_str(self.fuse.alloc, path)?;
+        let mut path = self.place(path)?;
         if matches!(self.fuse.trick, Trick::OtherFile) {
             path.push_str("-other")?;
         }
@@ -109,18 +121,18 @@ impl<'a> Files for Cut<'a> {
     }
 
     fn open_dir(&self, path: &str) -> io::Result<<HostRuntime as Files>::Dir> {
-        self.fuse.burn(What::Look, path)?;
-        self.inner.open_dir(path)
+        self.fuse.burn_or_interrupt(What::Look, path)?;
+        self.inner.open_dir(self.place(path)?.as_str())
     }
 
     fn metadata(&self, path: &str) -> io::Result<Metadata> {
-        self.fuse.burn(What::Look, path)?;
-        self.inner.metadata(path)
+        self.fuse.burn_or_interrupt(What::Look, path)?;
+        self.inner.metadata(self.place(path)?.as_str())
     }
 
     fn symlink_metadata(&self, path: &str) -> io::Result<Metadata> {
-        self.fuse.burn(What::Look, path)?;
-        self.inner.symlink_metadata(path)
+        self.fuse.burn_or_interrupt(What::Look, path)?;
+        self.inner.symlink_metadata(self.place(path)?.as_str())
     }
 
     fn copy(&self, _: &str, _: &str) -> io::Result<u64> {
@@ -128,27 +140,27 @@ impl<'a> Files for Cut<'a> {
     }
 
     fn rename(&self, from: &str, to: &str) -> io::Result<()> {
-        self.fuse.burn(What::Leave, from)?;
+        self.fuse.burn_or_interrupt(What::Leave, from)?;
         let before = fs::read(&self.inner, to).ok();
         self.fuse.note(What::Come, to, before)?;
         self.inner.rename(from, to)
     }
 
     fn remove_file(&self, path: &str) -> io::Result<()> {
-        self.fuse.burn(What::Look, path)?;
+        self.fuse.burn_or_interrupt(What::Look, path)?;
         let before = fs::read(&self.inner, path).ok();
         self.inner.remove_file(path)?;
         self.fuse.note(What::Remove, path, before)
     }
 
     fn create_dir(&self, path: &str) -> io::Result<()> {
-        self.fuse.burn(What::Look, path)?;
+        self.fuse.burn_or_interrupt(What::Look, path)?;
         self.inner.create_dir(path)?;
         self.fuse.note(What::Make, path, None)
     }
 
     fn create_dir_with_mode(&self, path: &str, mode: u32) -> io::Result<()> {
-        self.fuse.burn(What::Look, path)?;
+        self.fuse.burn_or_interrupt(What::Look, path)?;
         self.inner.create_dir_with_mode(path, mode)?;
         self.fuse.note(What::Make, path, None)
     }
@@ -162,12 +174,12 @@ impl<'a> Files for Cut<'a> {
     }
 
     fn canonicalize<B: Allocator>(&self, alloc: B, path: &str) -> io::Result<PathBuf<B>> {
-        self.fuse.burn(What::Look, path)?;
+        self.fuse.burn_or_interrupt(What::Look, path)?;
         self.inner.canonicalize(alloc, path)
     }
 
     fn read_link<B: Allocator>(&self, alloc: B, path: &str) -> io::Result<PathBuf<B>> {
-        self.fuse.burn(What::Look, path)?;
+        self.fuse.burn_or_interrupt(What::Look, path)?;
         self.inner.read_link(alloc, path)
     }
 }

@@ -45,6 +45,10 @@ pub enum Trick {
     FailsOnce,
     /// Where a file is opened, another one has come in its place, whose name has `-other` behind it.
     OtherFile,
+    /// Once no call is left, the folder `other` has come in the place of the folder `d/e`, and all calls are passed on.
+    OtherFolder,
+    /// Each call that the kit doesn't make again by itself is interrupted once, before it is passed on.
+    Interrupts,
 }
 
 /// How many calls are still passed on, and those that were.
@@ -52,6 +56,7 @@ pub enum Trick {
 pub struct Fuse {
     pub trick: Trick,
     left: Cell<u64>,
+    was_interrupted: Cell<bool>,
     steps: Cell<Vec<Step>>,
     pub alloc: Global,
 }
@@ -62,6 +67,7 @@ impl Fuse {
         Fuse {
             trick,
             left: Cell::new(left),
+            was_interrupted: Cell::new(false),
             steps: Cell::new(Vec::new(alloc)),
             alloc,
         }
@@ -77,11 +83,29 @@ impl Fuse {
         u64::MAX.saturating_sub(self.left.get())
     }
 
+    /// Whether another folder has come in the place of one.
+    pub(crate) fn has_other_folder(&self) -> bool {
+        matches!(self.trick, Trick::OtherFolder) && self.left.get() == 0
+    }
+
+    /// Does as [`Fuse::burn`], of a call that may be interrupted.
+    pub(crate) fn burn_or_interrupt(&self, what: What, path: &str) -> io::Result<()> {
+        let was_interrupted = self.was_interrupted.get();
+        self.was_interrupted.set(!was_interrupted);
+        if matches!(self.trick, Trick::Interrupts) && !was_interrupted {
+            return Err(io::Error::from(ErrorKind::Interrupted));
+        }
+        self.burn(what, path)
+    }
+
     /// Lets one call pass, and notes what it does; once none is left it fails.
     pub(crate) fn burn(&self, what: What, path: &str) -> io::Result<()> {
         if let Some(left) = self.left.get().checked_sub(1) {
             self.left.set(left);
             return self.note(what, path, None);
+        }
+        if self.has_other_folder() {
+            return Ok(());
         }
         if let Trick::FailsOnce = self.trick {
             self.goes_on();

@@ -152,6 +152,20 @@ impl Yard {
     }
 }
 
+// Each call is interrupted once, and made again.
+#[test]
+fn a_restore_whose_calls_are_interrupted_is_whole(rt: HostRuntime) {
+    let mut yard = Yard::new(rt, "interrupted").expect(&rt, "no folder");
+    yard.makes("");
+    let fuse = yard.fuse(u64::MAX, Trick::Interrupts);
+    let (count, is_ended) = restored(yard.cut(&fuse), yard.place("above/target").as_str(), WHOLE);
+    yard.is_whole("above/target/deep/a", "abcdef", true);
+    yard.is_whole("above/target/b", "x", true);
+    let entries = yard.entries("above/target");
+    yard.count(is_ended && count == 8 && entries == 2);
+    yard.end(&rt);
+}
+
 #[test]
 fn parts_are_taken_in_their_place(rt: HostRuntime) {
     let mut yard = Yard::new(rt, "given").expect(&rt, "no folder");

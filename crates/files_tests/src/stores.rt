@@ -301,6 +301,17 @@ fn what_failed_is_written_again(rt: HostRuntime) {
     yard.end(&rt);
 }
 
+// Each call is interrupted once, and made again.
+#[test]
+fn a_store_whose_calls_are_interrupted_acknowledges_all(rt: HostRuntime) {
+    let mut yard = Yard::new(rt, "store-interrupted").expect(&rt, "no folder");
+    let fuse = yard.fuse(u64::MAX, Trick::Interrupts);
+    let is_made = yard.makes_store(&fuse);
+    let (acknowledged, found) = yard.does(&fuse, Task::Change);
+    yard.count(is_made && acknowledged == CHANGES && found == 2_0111);
+    yard.end(&rt);
+}
+
 // The folders of packs are alike, so in the midst a few calls are tried.
 #[test]
 fn a_making_that_stops_is_made_whole(rt: HostRuntime) {

@@ -1,4 +1,5 @@
-//! Walks over a file system that stops after any call, and over one in which a file is exchanged.
+//! Walks over a file system that stops after any call, over one whose calls are interrupted, and over one in which a file or a folder is
+//! exchanged.
 
 use crate::cutting::Cut;
 use crate::fuses::Trick;
@@ -54,19 +55,55 @@ impl Yard {
         };
         self.count(is_so);
     }
+
+    /// Whether a walk, in which a folder is exchanged behind so many calls, finds this, or names a path that can't be read.
+    fn walks_or_ends(&self, calls: u64, wanted: &str) -> bool {
+        let fuse = self.fuse(calls, Trick::OtherFolder);
+        match finds(&self.cut(&fuse), self.place("d").as_str(), wanted) {
+            Ok(is_whole) => is_whole,
+            Err(WalkError::Unreadable(_)) => true,
+            Err(WalkError::Memory) => false,
+        }
+    }
+
+    /// Such a walk finds one of the folders whole, or names a path that can't be read, as it does at so many places of the exchange.
+    fn walks_one_of_two(&mut self, calls: u64) -> u64 {
+        let is_first = self.walks_or_ends(calls, "e(f(abc))");
+        let is_other = self.walks_or_ends(calls, "e(f(xyz)g(!))");
+        self.count(is_first || is_other);
+        u64::from(is_first && is_other)
+    }
 }
 
-// A whole walk looks at two folders, lists each twice and looks at it again; and it looks at the file, opens it, looks at it again and
-// reads it once.
+// A whole walk looks at two folders, lists each twice and looks at it again, and once more at the upper one; and it looks at the file,
+// opens it, looks at it and at its folder again, and reads it once.
 #[test]
 fn a_walk_is_whole_or_names_a_path(rt: HostRuntime) {
     let mut yard = Yard::new(rt, "unread").expect(&rt, "no folder");
     yard.makes("d/e");
     yard.writes("d/e/f", "abc");
-    for calls in 0..12u64 {
+    for calls in 0..14u64 {
         yard.walks(calls, Trick::None, "");
     }
-    yard.walks(12, Trick::None, "whole");
+    yard.walks(14, Trick::None, "whole");
+    yard.walks(u64::MAX, Trick::Interrupts, "whole");
+    yard.end(&rt);
+}
+
+#[test]
+fn nothing_is_read_of_a_folder_that_came_in_the_place_of_another(rt: HostRuntime) {
+    let mut yard = Yard::new(rt, "exchanged-folder").expect(&rt, "no folder");
+    yard.makes("d/e");
+    yard.writes("d/e/f", "abc");
+    yard.makes("other");
+    yard.writes("other/f", "xyz");
+    yard.writes("other/g", "!");
+    let mut ended = 0u64;
+    for calls in 0..16u64 {
+        let is_ended = yard.walks_one_of_two(calls);
+        ended = ended.saturating_add(is_ended);
+    }
+    yard.count(ended == 8);
     yard.end(&rt);
 }
 
