@@ -4,7 +4,8 @@ Usage: late_files.py FOLDER MOUNT WORD..
 
 It is mounted until it is ended, and passes every call on to FOLDER. Of a file it keeps the first 10,000 bytes, and answers each write as if
 all of it were kept. The words say what fails then: `fsync`, the sync of the handle by which too many bytes were written, with ENOSPC; `flush`,
-the close of that handle, with ENOSPC; `folders`, each sync of a folder, with EINVAL; `files`, each sync of a file, with EINVAL.
+the close of that handle, with ENOSPC; `folders`, each sync of a folder, with EINVAL; `files`, each sync of a file, with EINVAL. With `held` a
+file has all its bytes until that close, which cuts them off; with `lost` that close removes the file.
 """
 import errno
 import os
@@ -21,6 +22,7 @@ MOST = 10_000
 class Late(Operations):
     def __init__(self, folder, words):
         self.folder, self.words, self.spoiled = folder, words, set()
+        self.most = 1 << 40 if {"held", "lost"} & set(words) else MOST
 
     def at(self, path):
         return self.folder + path
@@ -57,11 +59,11 @@ class Late(Operations):
         return os.pread(fh, size, offset)
 
     def truncate(self, path, length, fh=None):
-        os.truncate(self.at(path), min(length, MOST))
+        os.truncate(self.at(path), min(length, self.most))
 
     def write(self, path, data, offset, fh):
-        kept = data[:max(0, MOST - offset)]
-        if len(kept) < len(data):
+        kept = data[:max(0, self.most - offset)]
+        if offset + len(data) > MOST:
             self.spoiled.add(fh)
         os.pwrite(fh, kept, offset)
         return len(data)
@@ -72,6 +74,10 @@ class Late(Operations):
         return 0
 
     def flush(self, path, fh):
+        if fh in self.spoiled and "held" in self.words:
+            os.ftruncate(fh, MOST)
+        if fh in self.spoiled and "lost" in self.words:
+            os.unlink(self.at(path))
         return self.fails_late("flush", fh)
 
     def fsync(self, path, datasync, fh):

@@ -5,6 +5,7 @@ import signal
 import socket
 import subprocess
 from contextlib import contextmanager
+from pathlib import Path
 
 from trying import OPTIONS, WAIT, same
 
@@ -72,6 +73,10 @@ class Server:
         self.kill()
 
     def kill(self):
+        # strace would leave the program running.
+        children = Path(f"/proc/{self.process.pid}/task/{self.process.pid}/children")
+        for child in children.read_text().split() if self.process.poll() is None else ():
+            os.kill(int(child), signal.SIGKILL)
         self.process.kill()
         self.process.communicate()
 

@@ -11,7 +11,7 @@ from cuts.calls import bytes_of, calls, events, strace
 from program import TICKET, Server, matches, token, told
 from trying import OPTIONS, WAIT, chosen, holds, same, trial
 from tries_power_cuts import is_traced
-from yards import CREATED, Yard, entries, filled, in_store, restores, stored
+from yards import CREATED, STORED, Yard, entries, filled, in_store, restores, stored
 
 
 def disturbed(log, inject, *words):
@@ -150,6 +150,43 @@ def a_restore_whose_syncs_fail_is_not_complete(yard):
         holds(stopped >= len(entries(root)) + 1, f"{stopped} of {count} were told")
 
 
+# Which calls are interrupted, of each sort: each second or third one, or a few among many. A listing takes two calls.
+INTERRUPTED = {"mkdir,mkdirat": "1+2", "statx": "1+2", "statx,mkdir,rename,unlink": "3+50", "rename,renameat,renameat2": "1+2", "unlink,unlinkat": "1+2",
+               "getdents64": "1+3", "fsync,ftruncate,flock": "1+2", "recvfrom": "1+2", "sendto": "1+2", "accept4": "1+2"}
+
+
+def interrupting(log, sort):
+    """The words before a command of which calls of a sort are interrupted."""
+    return ["strace", "-f", "-qq", "-o", str(log), "-e", f"trace={sort}", "-e", f"inject={sort}:error=EINTR:when={INTERRUPTED[sort]}"]
+
+
+@trial(is_early=True)
+def what_is_interrupted_is_made_again():
+    """A making, a server and each job end as they do if no call is interrupted."""
+    is_traced()
+    met = set()
+    for sort in INTERRUPTED:
+        with Yard() as yard:
+            log, root, target = yard.top / "log", filled(yard.top / "from", {"d/e/x": b"abc" * 999, "d/f/": b"", "y": b"", "z": b"def"}), yard.top / "above/to"
+
+            def tells(*words):
+                run = subprocess.run([*interrupting(log, sort), OPTIONS.program, *map(str, words)], capture_output=True, text=True, stdin=subprocess.DEVNULL, timeout=WAIT)
+                met.update([sort] if "(INJECTED)" in log.read_text() else [])
+                return f"{run.returncode}|{run.stdout}|{run.stderr}"
+            matches(tells("init", yard.root), CREATED, sort)
+            with Server(yard.root, connections=6, before=interrupting(yard.top / "served", sort)) as server:
+                name = matches(tells("backup", server.address, "h", root), STORED, sort)[0]
+                same(tells("restore", server.address, name, target), f"0|complete {len(entries(root))}\n|", sort)
+                same(entries(target), entries(root), sort)
+                matches(tells("check", server.address), r"0\|clean 1 1 1 \d+\n\|", sort)
+                same(tells("forget", server.address, name), f"0|forgotten {name}\n|", sort)
+                matches(tells("prune", server.address), r"0\|pruned 1 \d+\n\|", sort)
+                same(tells("snapshots", server.address), "0||", sort)
+                same(server.end(), "0||", sort)
+            met.update([sort] if "(INJECTED)" in (yard.top / "served").read_text() else [])
+    same(set(INTERRUPTED) - met, set(), "no call of these was met")
+
+
 # A backup of nothing and a restore of it, what `vault loop` prints of them, and by their tags what each asks and is answered.
 SCRIPT = "report\nstart backup a 5\nfinish 0\nstart restore 0\nfinish 1\nreport\n"
 EMPTY = "store packs 0 indexes 0 snapshots 0 live 0\n"
@@ -187,6 +224,14 @@ def each_message_of_a_loop_goes_over_its_clients_connection():
             same(own, [own[0], own[0][::-1]] * 8, "the ends")
             same([[frame[4] for frame in frames[turn::2]] for turn in (0, 1)], [asked, said], "the frames")
         same(len({*ends[0], *ends[16]}), 4, "connections")
+
+
+@trial
+def a_loop_whose_reads_and_writes_are_interrupted_makes_them_again():
+    is_traced()
+    with Yard() as yard:
+        for call in ("sendto", "recvfrom"):
+            same(looped(yard.top / "log", f"{call}:error=EINTR:when=1+2"), (f"0|{BOTH}|", True), call)
 
 
 @trial

@@ -16,7 +16,7 @@ from pathlib import Path
 from program import Server, matches, told
 from tries_power_cuts import is_traced
 from trying import OPTIONS, WAIT, Lacking, Skipped, awaits, holds, is_possible, same, trial
-from yards import SMALL, Yard, entries, filled, in_store, is_clean, restores, stored
+from yards import CREATED, FAILED, SMALL, Yard, entries, filled, in_store, is_clean, restores, stored
 
 LATE = Path(__file__).resolve().parent / "late_files.py"
 
@@ -35,7 +35,7 @@ def late(yard, *words):
     """A folder of the file system of late_files.py, in which these words fail."""
     if not os.access("/dev/fuse", os.R_OK | os.W_OK):
         raise Skipped("there is no /dev/fuse")
-    python, folder, mount = python_with_fuse(), yard.top / "behind", yard.top / "late"
+    python, folder, mount = python_with_fuse(), yard.top / f"behind-{'-'.join(words)}", yard.top / f"late-{'-'.join(words)}"
     folder.mkdir()
     mount.mkdir()
     with subprocess.Popen([python, LATE, folder, mount, *words], stdin=subprocess.DEVNULL, stdout=subprocess.DEVNULL, stderr=subprocess.PIPE) as child:
@@ -65,10 +65,45 @@ def a_target_that_refuses_bytes_late_is_told(yard):
 
 
 @in_store
+def a_target_that_refuses_bytes_at_the_close_is_told(yard):
+    """The file system answers each sync that all is kept, and refuses bytes when the file is closed. Then the file is short, at once or from that
+    close on, or it is gone. So it is with a file among many, too."""
+    chance = random.Random(4)
+    root = filled(yard.top / "from", {"big": chance.randbytes(50_000), "d/small": b"abc"})
+    many = filled(yard.top / "many", {f"d/{number:03}": b"%d" % number for number in range(250)} | {"d/100big": chance.randbytes(50_000)})
+    with Server(yard.root, connections=99) as server:
+        names = stored(server.address, root), stored(server.address, many)
+        (root / "big").write_bytes(b"abc")
+        small = stored(server.address, root)
+        for words in (["flush"], ["flush", "held"], ["held"], ["flush", "lost"]):
+            with late(yard, *words) as target:
+                for number, name in enumerate(names):
+                    same(told("restore", server.address, name, target / f"{number}"), "1||stopped\n", f"{words} {number}")
+                restores(server.address, small, target / "small", entries(root))
+        same(told("locks", server.address), "0||")
+
+
+@in_store
 def a_folder_that_cannot_be_synced_does_not_stop_a_restore(yard):
     root = filled(yard.top / "from", {"d/small": b"abc", "e/": b""})
     with late(yard, "folders") as target, Server(yard.root, connections=9) as server:
         restores(server.address, stored(server.address, root), target / "above/to", entries(root))
+
+
+@trial
+def a_store_wants_its_folders_synced():
+    """On a file system that can't sync folders no store is made or served, and nothing half made is taken for one."""
+    with Yard() as yard, late(yard, "folders") as mount:
+        behind = yard.top / "behind-folders"
+        for store in ("", "store", "above/store"):
+            same(told("init", mount / store), FAILED, store)
+            for name in ("config", "ledger"):
+                same((behind / store / name).exists(), False, f"{store}: {name}")
+            same(told("serve", mount / store, "127.0.0.1:0"), FAILED, store)
+            matches(told("init", behind / store, *SMALL), CREATED, store)
+            same(told("serve", mount / store, "127.0.0.1:0"), FAILED, f"{store}, made elsewhere")
+            with Server(behind / store, connections=2) as server:
+                is_clean(server.address)
 
 
 @in_store
@@ -84,18 +119,6 @@ def injected(log, path, call, inject):
     return ["strace", "-f", "-e", "quiet=all", "-o", str(log), "-e", f"trace={call}", "-P", f"{path}{end}", "-e", f"inject={call}:{inject}"]
 
 
-@contextmanager
-def disturbed_server(root, log, path, call, inject):
-    """A server of which a call on a path is disturbed."""
-    with Server(root, connections=9, before=injected(log, path, call, inject)) as server:
-        try:
-            yield server
-        finally:
-            # strace would leave the server running.
-            for child in Path(f"/proc/{server.process.pid}/task/{server.process.pid}/children").read_text().split():
-                os.kill(int(child), signal.SIGKILL)
-
-
 @in_store
 def a_listing_of_a_store_that_is_cut_off_is_a_failure(yard):
     """The system answers one listing of the snapshots with ENOENT, as if it were over: nothing is deleted, and the next prune is well."""
@@ -106,7 +129,7 @@ def a_listing_of_a_store_that_is_cut_off_is_a_failure(yard):
     for folder in ("snapshots", "index"):
         for place in (1, 2, 3):
             log = yard.top / f"log-{folder}-{place}"
-            with disturbed_server(yard.root, log, yard.at(folder), "getdents64", f"error=ENOENT:when={place}") as server:
+            with Server(yard.root, connections=9, before=injected(log, yard.at(folder), "getdents64", f"error=ENOENT:when={place}")) as server:
                 got = told("prune", server.address)
                 was_met = "(INJECTED)" in log.read_text()
                 holds(was_met or place > 2, f"{folder}: there is no listing {place}")
@@ -146,11 +169,12 @@ def a_folder_that_was_removed_is_not_stored_as_an_empty_one(yard):
         same(told("snapshots", server.address), "0||")
 
 
-def stopped_in(yard, server, root, path, call, acts):
-    """Stops a backup in its first call of this name on a path, does something, and lets the backup go on. Returns what the backup printed."""
+def stopped_in(yard, server, root, path, call, acts, place=1):
+    """Stops a backup in its first call of this name on a path, or in a later one, does something, and lets the backup go on. Returns what the
+    backup printed."""
     log = yard.top / "log"
     log.unlink(missing_ok=True)
-    words = [*injected(log, path, call, "signal=STOP:when=1"), OPTIONS.program, "backup", server.address, "h", str(root)]
+    words = [*injected(log, path, call, f"signal=STOP:when={place}"), OPTIONS.program, "backup", server.address, "h", str(root)]
     with subprocess.Popen(words, stdin=subprocess.DEVNULL, stdout=subprocess.PIPE, stderr=subprocess.PIPE, text=True) as child:
         try:
             awaits(lambda: child.poll() is not None or log.exists() and "stopped by SIGSTOP" in log.read_text(), f"a call of {call}")
@@ -182,6 +206,39 @@ def a_directory_that_is_exchanged_behind_the_look_at_it_is_unreadable(yard):
             same(stopped_in(yard, server, root, root / "b", call, lambda root=root: shutil.rmtree(root / "b")), f"1||unreadable {root}/b\n", f"removed at {call}")
         same(told("snapshots", server.address), "0||")
         same(told("locks", server.address), "0||")
+
+
+# What is exchanged; where the backup is stopped before: a path, the call on it, and which of these calls; and the path that is named.
+EXCHANGES = [("b", "b", "statx", 2, "b/x"), ("b", "b/x", "read", 1, "b/y"), ("c/d", "c/d", "statx", 2, "c/d/x"), ("c", "c/d", "statx", 2, "c/d"), ("c", "c", "statx", 2, "c/d"),
+             ("e", "e", "statx", 2, "e/p"), (".", ".", "statx", 2, "b")]
+
+
+def exchanges(folder, other, kind):
+    """Puts another folder, or a link to it, in the place of a folder."""
+    folder.rename(other.parent / "away")
+    if kind == "link":
+        folder.symlink_to(other)
+    else:
+        other.rename(folder)
+
+
+@in_store
+def a_directory_that_is_exchanged_behind_its_listing_is_unreadable(yard):
+    """It is exchanged when its names are known: before the first entry is opened, or while the first file is read. The first path that leads
+    elsewhere is named, and nothing of the other folder is stored."""
+    is_traced()
+    with Server(yard.root, connections=99) as server:
+        for kind in ("link", "folder"):
+            for number, (folder, path, call, place, wanted) in enumerate(EXCHANGES):
+                top = yard.top / f"{kind}-{number}"
+                root = filled(top / "from", {"b/x": b"abc" * 50_000, "b/y": b"def", "c/d/x": b"ghi", "e/p": b"jkl"})
+                other = filled(top / "other", {name: b"SECRET" for name in ("x", "y", "d/x", "b/x", "b/y")})
+                (other / "p").symlink_to("x")
+                got = stopped_in(yard, server, root, root / path, call, lambda: exchanges(root / folder, other, kind), place)
+                same(got, f"1||unreadable {root}/{wanted}\n", f"{folder} for a {kind}, at {path}")
+        same(told("snapshots", server.address), "0||")
+        same(told("locks", server.address), "0||")
+    same([str(it) for it in yard.root.rglob("*") if it.is_file() and b"SECRET" in it.read_bytes()], [])
 
 
 def modes_of(folder):
