@@ -278,7 +278,7 @@ fn tell_lines<F: Write>(lines: &str, faults: &mut F)
 }
 
 /// Tells why a command failed by lines that were made, or that there was no memory for them.
-fn failed_made<F: Write>(made: Result<String, AllocError>, faults: &mut F) -> Status
+fn failed_with<F: Write>(made: Result<String, AllocError>, faults: &mut F) -> Status
     ensures status { result ≡ Status.Failed }
     ensures tells { (lines : List ℕ) → IfOk made (λ text. string_bytes text ≡ lines) → TellsWhy lines (F.contents faults.old) (F.contents faults.new) }
 {
@@ -294,7 +294,7 @@ pub fn unwelcome<F: Write>(alloc: Global, say: &Say, faults: &mut F) -> Status
     ensures status { result ≡ Status.Failed }
     ensures tells { TellsWhy (unwelcome_line say.now) (F.contents faults.old) (F.contents faults.new) }
 {
-    failed_made(unwelcome_line(alloc, say), faults)
+    failed_with(unwelcome_line(alloc, say), faults)
 }
 
 /// Tells how a job ended that didn't do what it was for. If it ended by an object that is missing or can't be read, a second line
@@ -303,5 +303,5 @@ pub fn unfinished<F: Write>(alloc: Global, outcome: Option<&Outcome>, faults: &m
     ensures status { result ≡ Status.Failed }
     ensures tells { TellsWhy (unfinished_lines (option_map (λ o. o.now) outcome.entry)) (F.contents faults.old) (F.contents faults.new) }
 {
-    failed_made(unfinished_lines(alloc, outcome), faults)
+    failed_with(unfinished_lines(alloc, outcome), faults)
 }
