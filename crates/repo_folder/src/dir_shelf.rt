@@ -74,6 +74,8 @@ impl<D: Disk> Shelf for DirShelf<D> {
 
     ghost own = { λ d. D.failed d.folder.disk };
 
+    ghost reads = { λ d. 0 };
+
     ghost writes = { λ d. 0 };
 
     ghost honest = { λ d. IsHonest (D.faithful d.folder.disk) d.folder.standing (D.state d.folder.disk) × HasLedger (D.state d.folder.disk).fate };

@@ -226,6 +226,11 @@ IsQuiet old (Ask.Delete token kind name) = ⊥
 IsQuiet old Ask.Config = ⊤
 IsQuiet old (Ask.Upgrade token) = IsRaised old
 
+-- the reading calls that a request may make of the device: one for the ledger, for names, for an object or for the config; an upgrade may make two
+abbrev pub reads_of : Ask → ℕ
+reads_of (Ask.Upgrade token) = 2
+reads_of _ = 1
+
 -- it is refused, and not for the device's failure or for want of memory
 abbrev pub IsRuledOut : Say → Type 0
 IsRuledOut (Say.Token token) = ⊥

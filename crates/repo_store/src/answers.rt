@@ -6,7 +6,7 @@ ghost use Rattle.repo_wire.specs.Stream.{FitsFrame};
 ghost use Rattle.repo_store.specs.Runs.{Replies};
 ghost use Rattle.repo_store.specs.AppendOnly.{OnlyAppends};
 ghost use Rattle.repo_store.specs.Failing.{AnswersAsArmed};
-ghost use Rattle.repo_store.specs.StoreMachine.{refusal, IsAnswerable, IsQuiet, IsRuledOut, Looks, Step, SaysFault};
+ghost use Rattle.repo_store.specs.StoreMachine.{reads_of, refusal, IsAnswerable, IsQuiet, IsRuledOut, Looks, Step, SaysFault};
 
 use crate::lock_answers::{
     answer_lock, answer_locks, answer_refresh, answer_ticket, answer_unlock,
@@ -38,6 +38,7 @@ fn say_to<S: Shelf>(alloc: Global, shelf: &mut S, ask: &Ask) -> Say
     ensures armed { AnswersAsArmed S.honest S.armed S.own S.store shelf.old ask.now result shelf.new }
     ensures honest { S.honest shelf.old → S.honest shelf.new }
     ensures before { S.honest shelf.old → ¬ Looks (S.store shelf.old) ask.now → shelf.new ≡ shelf.old }
+    ensures read { S.reads shelf.new ≤ S.reads shelf.old + reads_of ask.now }
     ensures once { S.writes shelf.new ≤ S.writes shelf.old + 1 }
     ensures quiet { S.honest shelf.old → IsQuiet (S.store shelf.old) ask.now → S.writes shelf.new ≡ S.writes shelf.old }
     ensures ruled_out { IsRuledOut result → S.writes shelf.new ≡ S.writes shelf.old }
@@ -88,7 +89,7 @@ fn reply_to(instance: Instance, sequence: u64, say: Say) -> Reply
 /// Code 10 is said only where the shelf failed in this call, by itself or as it was told to; the store is then
 /// as before, or as after the answer that the request would have had. What a shelf was told to fail in fails in
 /// just that call, and then no more. After every other refusal the store is as before. A store that only appends
-/// keeps each object. The shelf is asked to write at most once; and not at all for a request that only reads, a
+/// keeps each object. The shelf is read at most once, for an upgrade at most twice, and asked to write at most once; and not at all for a request that only reads, a
 /// lock that is held already, an unlock that changes nothing, an upgrade of a config that is of version 2
 /// already, and where the refusal is another than 10 and 11. What is answered before the shelf is looked at leaves it as it was.
 pub fn answer<S: Shelf>(alloc: Global, shelf: &mut S, request: &Request) -> Reply
@@ -99,6 +100,7 @@ pub fn answer<S: Shelf>(alloc: Global, shelf: &mut S, request: &Request) -> Repl
     ensures armed { AnswersAsArmed S.honest S.armed S.own S.store shelf.old request.now.ask result.say shelf.new }
     ensures honest { S.honest shelf.old → S.honest shelf.new }
     ensures before { S.honest shelf.old → ¬ Looks (S.store shelf.old) request.now.ask → shelf.new ≡ shelf.old }
+    ensures read { S.reads shelf.new ≤ S.reads shelf.old + reads_of request.now.ask }
     ensures once { S.writes shelf.new ≤ S.writes shelf.old + 1 }
     ensures quiet { S.honest shelf.old → IsQuiet (S.store shelf.old) request.now.ask → S.writes shelf.new ≡ S.writes shelf.old }
     ensures ruled_out { IsRuledOut result.say → S.writes shelf.new ≡ S.writes shelf.old }

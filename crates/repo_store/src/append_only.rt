@@ -42,6 +42,8 @@ impl<S: Shelf> Shelf for AppendOnly<S> {
 
     ghost own = { λ a. S.own a.inner };
 
+    ghost reads = { λ a. S.reads a.inner };
+
     ghost writes = { λ a. S.writes a.inner };
 
     ghost honest = { λ a. S.honest a.inner };

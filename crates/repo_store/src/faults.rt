@@ -153,6 +153,8 @@ impl<S: Shelf> Shelf for FaultShelf<S> {
 
     ghost own = { λ f. S.failed f.inner };
 
+    ghost reads = { λ f. S.reads f.inner };
+
     ghost writes = { λ f. S.writes f.inner };
 
     ghost honest = { λ f. S.honest f.inner };
@@ -203,6 +205,7 @@ impl<S: Shelf> Shelf for FaultShelf<S> {
         ensures cause { S.honest self.old.inner → HasCause (count_of (S.failed self.old.inner) self.old.count) result (count_of (S.failed self.new.inner) self.new.count) }
         ensures armed { S.honest self.old.inner → ReadsAsArmed self.old.armed (S.failed self.old.inner) result self.new.armed (S.failed self.new.inner) }
         ensures honest { S.honest self.old.inner → S.honest self.new.inner }
+        ensures read { S.reads self.new.inner ≤ S.reads self.old.inner + 1 }
         ensures quiet { S.writes self.new.inner ≡ S.writes self.old.inner }
         ensures few { IfOk result (λ page. length page.names ≤ limit) }
         ensures names { IfOk result (λ page. All IsName page.names) }
@@ -218,6 +221,7 @@ impl<S: Shelf> Shelf for FaultShelf<S> {
         ensures cause { S.honest self.old.inner → HasCause (count_of (S.failed self.old.inner) self.old.count) result (count_of (S.failed self.new.inner) self.new.count) }
         ensures armed { S.honest self.old.inner → ReadsAsArmed self.old.armed (S.failed self.old.inner) result self.new.armed (S.failed self.new.inner) }
         ensures honest { S.honest self.old.inner → S.honest self.new.inner }
+        ensures read { S.reads self.new.inner ≤ S.reads self.old.inner + 1 }
         ensures quiet { S.writes self.new.inner ≡ S.writes self.old.inner }
     {
         if self.fails_reading() {
@@ -231,6 +235,7 @@ impl<S: Shelf> Shelf for FaultShelf<S> {
         ensures cause { S.honest self.old.inner → HasCause (count_of (S.failed self.old.inner) self.old.count) result (count_of (S.failed self.new.inner) self.new.count) }
         ensures armed { S.honest self.old.inner → ReadsAsArmed self.old.armed (S.failed self.old.inner) result self.new.armed (S.failed self.new.inner) }
         ensures honest { S.honest self.old.inner → S.honest self.new.inner }
+        ensures read { S.reads self.new.inner ≤ S.reads self.old.inner + 1 }
         ensures quiet { S.writes self.new.inner ≡ S.writes self.old.inner }
     {
         if self.fails_reading() {

@@ -103,6 +103,8 @@ impl<S: Shelf> Shelf for Kept<S> {
 
     ghost own = { λ k. S.own k.inner };
 
+    ghost reads = { λ k. S.reads k.inner };
+
     ghost writes = { λ k. S.writes k.inner };
 
     ghost honest = { λ k. S.honest k.inner × Agrees k.known (S.store k.inner) };

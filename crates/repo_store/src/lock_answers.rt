@@ -33,6 +33,7 @@ pub fn answer_ticket<S: Shelf>(shelf: &mut S) -> Say
     ensures cause { S.honest shelf.old → SaysFault (S.failed shelf.old) result (S.failed shelf.new) }
     ensures armed { AnswersAsArmed S.honest S.armed S.own S.store shelf.old Ask.Ticket result shelf.new }
     ensures honest { S.honest shelf.old → S.honest shelf.new }
+    ensures read { S.reads shelf.new ≤ S.reads shelf.old + 1 }
     ensures once { S.writes shelf.new ≤ S.writes shelf.old + 1 }
     ensures ruled_out { IsRuledOut result → S.writes shelf.new ≡ S.writes shelf.old }
     ensures within { IsSay result × IsShortSay result }
@@ -59,6 +60,7 @@ pub fn answer_lock<S: Shelf>(shelf: &mut S, row: &LockRow) -> Say
     ensures cause { S.honest shelf.old → SaysFault (S.failed shelf.old) result (S.failed shelf.new) }
     ensures armed { AnswersAsArmed S.honest S.armed S.own S.store shelf.old (Ask.Lock row.now) result shelf.new }
     ensures honest { S.honest shelf.old → S.honest shelf.new }
+    ensures read { S.reads shelf.new ≤ S.reads shelf.old + 1 }
     ensures once { S.writes shelf.new ≤ S.writes shelf.old + 1 }
     ensures quiet { S.honest shelf.old → IsQuiet (S.store shelf.old) (Ask.Lock row.now) → S.writes shelf.new ≡ S.writes shelf.old }
     ensures ruled_out { IsRuledOut result → S.writes shelf.new ≡ S.writes shelf.old }
@@ -85,6 +87,7 @@ pub fn answer_refresh<S: Shelf>(shelf: &mut S, token: Token, time: u64) -> Say
     ensures cause { S.honest shelf.old → SaysFault (S.failed shelf.old) result (S.failed shelf.new) }
     ensures armed { AnswersAsArmed S.honest S.armed S.own S.store shelf.old (Ask.Refresh token time) result shelf.new }
     ensures honest { S.honest shelf.old → S.honest shelf.new }
+    ensures read { S.reads shelf.new ≤ S.reads shelf.old + 1 }
     ensures once { S.writes shelf.new ≤ S.writes shelf.old + 1 }
     ensures ruled_out { IsRuledOut result → S.writes shelf.new ≡ S.writes shelf.old }
     ensures within { IsSay result × IsShortSay result }
@@ -109,6 +112,7 @@ pub fn answer_unlock<S: Shelf>(shelf: &mut S, token: Token) -> Say
     ensures cause { S.honest shelf.old → SaysFault (S.failed shelf.old) result (S.failed shelf.new) }
     ensures armed { AnswersAsArmed S.honest S.armed S.own S.store shelf.old (Ask.Unlock token) result shelf.new }
     ensures honest { S.honest shelf.old → S.honest shelf.new }
+    ensures read { S.reads shelf.new ≤ S.reads shelf.old + 1 }
     ensures once { S.writes shelf.new ≤ S.writes shelf.old + 1 }
     ensures quiet { S.honest shelf.old → IsQuiet (S.store shelf.old) (Ask.Unlock token) → S.writes shelf.new ≡ S.writes shelf.old }
     ensures ruled_out { IsRuledOut result → S.writes shelf.new ≡ S.writes shelf.old }
@@ -133,6 +137,7 @@ pub fn answer_locks<S: Shelf>(alloc: Global, shelf: &mut S) -> Say
     ensures cause { S.honest shelf.old → SaysFault (S.failed shelf.old) result (S.failed shelf.new) }
     ensures armed { AnswersAsArmed S.honest S.armed S.own S.store shelf.old Ask.Locks result shelf.new }
     ensures honest { S.honest shelf.old → S.honest shelf.new }
+    ensures read { S.reads shelf.new ≤ S.reads shelf.old + 1 }
     ensures quiet { S.writes shelf.new ≡ S.writes shelf.old }
     ensures within { IsSay result × IsShortSay result }
 {

@@ -38,14 +38,15 @@ fn making_error(error: ShelfError) -> InitError
 /// Keeps the config on a shelf that has none. The config's version has to be one that there is, and its target within
 /// its limits.
 ///
-/// `Exists` comes first, and then nothing was written. `Fault` comes only where the shelf failed in this call. It makes one writing
-/// call at most.
+/// `Exists` comes first, and then nothing was written. `Fault` comes only where the shelf failed in this call. It makes one reading
+/// call and one writing call at most.
 pub fn init<S: Shelf>(alloc: Global, shelf: &mut S, config: &Config) -> Result<(), InitError>
     requires version { IsKnownTo greatest_version config.now.version }
     requires target { IsTarget config.now.target }
     ensures law { S.honest shelf.old → Makes (config_text config.now) (S.store shelf.old) result (S.store shelf.new) }
     ensures cause { S.honest shelf.old → MakingHasCause (S.failed shelf.old) result (S.failed shelf.new) }
     ensures honest { S.honest shelf.old → S.honest shelf.new }
+    ensures read { S.reads shelf.new ≤ S.reads shelf.old + 1 }
     ensures once { S.writes shelf.new ≤ S.writes shelf.old + 1 }
     ensures exists { IsErrOf result InitError.Exists → S.writes shelf.new ≡ S.writes shelf.old }
 {

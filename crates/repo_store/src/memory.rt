@@ -149,6 +149,8 @@ impl Shelf for MemShelf {
 
     ghost own = { λ _. 0 };
 
+    ghost reads = { λ _. 0 };
+
     ghost writes = { λ _. 0 };
 
     ghost honest = { λ _. ⊤ };

@@ -52,6 +52,7 @@ pub fn answer_list<S: Shelf>(shelf: &mut S, kind: Kind, after: Option<&Name>) ->
     ensures cause { S.honest shelf.old → SaysFault (S.failed shelf.old) result (S.failed shelf.new) }
     ensures armed { AnswersAsArmed S.honest S.armed S.own S.store shelf.old (Ask.List kind (option_map (λ name. name.now) after.entry)) result shelf.new }
     ensures honest { S.honest shelf.old → S.honest shelf.new }
+    ensures read { S.reads shelf.new ≤ S.reads shelf.old + 1 }
     ensures quiet { S.writes shelf.new ≡ S.writes shelf.old }
     ensures within { IsSay result × IsShortSay result }
 {
@@ -70,6 +71,7 @@ pub fn answer_get<S: Shelf>(shelf: &mut S, kind: Kind, name: &Name) -> Say
     ensures cause { S.honest shelf.old → SaysFault (S.failed shelf.old) result (S.failed shelf.new) }
     ensures armed { AnswersAsArmed S.honest S.armed S.own S.store shelf.old (Ask.Get kind name.now) result shelf.new }
     ensures honest { S.honest shelf.old → S.honest shelf.new }
+    ensures read { S.reads shelf.new ≤ S.reads shelf.old + 1 }
     ensures quiet { S.writes shelf.new ≡ S.writes shelf.old }
     ensures within { IsSay result × IsShortSay result }
 {
@@ -85,6 +87,7 @@ pub fn answer_config<S: Shelf>(shelf: &mut S) -> Say
     ensures cause { S.honest shelf.old → SaysFault (S.failed shelf.old) result (S.failed shelf.new) }
     ensures armed { AnswersAsArmed S.honest S.armed S.own S.store shelf.old Ask.Config result shelf.new }
     ensures honest { S.honest shelf.old → S.honest shelf.new }
+    ensures read { S.reads shelf.new ≤ S.reads shelf.old + 1 }
     ensures quiet { S.writes shelf.new ≡ S.writes shelf.old }
     ensures within { IsSay result × IsShortSay result }
 {
@@ -101,6 +104,7 @@ pub fn answer_range<S: Shelf>(shelf: &mut S, pack: &Name, offset: u32, length: u
     ensures armed { AnswersAsArmed S.honest S.armed S.own S.store shelf.old (Ask.Range pack.now offset length) result shelf.new }
     ensures honest { S.honest shelf.old → S.honest shelf.new }
     ensures before { ¬ Looks (S.store shelf.old) (Ask.Range pack.now offset length) → shelf.new ≡ shelf.old }
+    ensures read { S.reads shelf.new ≤ S.reads shelf.old + 1 }
     ensures quiet { S.writes shelf.new ≡ S.writes shelf.old }
     ensures within { IsSay result × IsShortSay result }
 {
@@ -128,6 +132,7 @@ pub fn answer_put<S: Shelf>(
     ensures armed { AnswersAsArmed S.honest S.armed S.own S.store shelf.old (Ask.Put token kind name.now bytes.now) result shelf.new }
     ensures honest { S.honest shelf.old → S.honest shelf.new }
     ensures before { ¬ Looks (S.store shelf.old) (Ask.Put token kind name.now bytes.now) → shelf.new ≡ shelf.old }
+    ensures read { S.reads shelf.new ≤ S.reads shelf.old + 1 }
     ensures once { S.writes shelf.new ≤ S.writes shelf.old + 1 }
     ensures ruled_out { IsRuledOut result → S.writes shelf.new ≡ S.writes shelf.old }
     ensures within { IsSay result × IsShortSay result }
@@ -159,6 +164,7 @@ pub fn answer_delete<S: Shelf>(shelf: &mut S, token: Token, kind: Kind, name: &N
     ensures armed { AnswersAsArmed S.honest S.armed S.own S.store shelf.old (Ask.Delete token kind name.now) result shelf.new }
     ensures honest { S.honest shelf.old → S.honest shelf.new }
     ensures before { S.honest shelf.old → ¬ Looks (S.store shelf.old) (Ask.Delete token kind name.now) → shelf.new ≡ shelf.old }
+    ensures read { S.reads shelf.new ≤ S.reads shelf.old + 1 }
     ensures once { S.writes shelf.new ≤ S.writes shelf.old + 1 }
     ensures ruled_out { IsRuledOut result → S.writes shelf.new ≡ S.writes shelf.old }
     ensures within { IsSay result × IsShortSay result }

@@ -1,6 +1,6 @@
 //! Pages of names, and all of them in a set.
 
-ghost use Rattle.std.specs.Prelude.{◌≡◌, ◌↔◌, ◌<◌, ◌-◌, ◌^◌, None, false, length, IsTrue, OnOk};
+ghost use Rattle.std.specs.Prelude.{◌≡◌, ◌↔◌, ◌≤◌, ◌<◌, ◌+◌, ◌-◌, ◌^◌, None, false, length, IsTrue, OnOk};
 ghost use Rattle.repo_store.specs.Faults.{MayReadAsArmed};
 ghost use Rattle.repo_store.specs.Kept.{PageJoins, ReadsNames};
 ghost use Rattle.repo_store.specs.Laws.{HasCause};
@@ -72,6 +72,7 @@ pub fn all_names<S: Shelf>(alloc: Global, shelf: &mut S, kind: Kind) -> Result<N
     ensures cause { S.honest shelf.old → HasCause (S.failed shelf.old) result (S.failed shelf.new) }
     ensures armed { S.honest shelf.old → MayReadAsArmed (S.armed shelf.old) (S.own shelf.old) result (S.armed shelf.new) (S.own shelf.new) }
     ensures honest { S.honest shelf.old → S.honest shelf.new }
+    ensures read { S.reads shelf.new ≤ S.reads shelf.old + 1 }
     ensures quiet { S.writes shelf.new ≡ S.writes shelf.old }
 {
     let page = shelf.names_after(kind, None, ALL)?;

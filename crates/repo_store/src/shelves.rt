@@ -66,6 +66,8 @@ pub trait Shelf {
     ghost armed: { Self → Armed };
     /// How many calls have failed that weren't told to.
     ghost own: { Self → ℕ };
+    /// How many reading calls were made, as far as the device counts them.
+    ghost reads: { Self → ℕ };
     /// How many writing calls were made, as far as the device counts them.
     ghost writes: { Self → ℕ };
     /// The device keeps what it was given.
@@ -77,6 +79,7 @@ pub trait Shelf {
         ensures cause { honest self.old → HasCause (failed self.old) result (failed self.new) }
         ensures armed { honest self.old → ReadsAsArmed (armed self.old) (own self.old) result (armed self.new) (own self.new) }
         ensures honest { honest self.old → honest self.new }
+        ensures read { reads self.new ≤ reads self.old + 1 }
         ensures quiet { writes self.new ≡ writes self.old };
 
     /// So many bytes of a pack at an offset. It changes nothing but the count of failures.
@@ -85,6 +88,7 @@ pub trait Shelf {
         ensures cause { honest self.old → HasCause (failed self.old) result (failed self.new) }
         ensures armed { honest self.old → ReadsAsArmed (armed self.old) (own self.old) result (armed self.new) (own self.new) }
         ensures honest { honest self.old → honest self.new }
+        ensures read { reads self.new ≤ reads self.old + 1 }
         ensures quiet { writes self.new ≡ writes self.old }
         ensures length { IfOk result (HasLength length) };
 
@@ -95,6 +99,7 @@ pub trait Shelf {
         ensures cause { honest self.old → HasCause (failed self.old) result (failed self.new) }
         ensures armed { MakesAsArmed honest armed own store (PutsObject kind name.now bytes.now) self.old result self.new }
         ensures honest { honest self.old → honest self.new }
+        ensures unread { reads self.new ≡ reads self.old }
         ensures once { writes self.new ≤ writes self.old + 1 };
 
     /// Removes an object, if there is one. After a fault it may be there or not.
@@ -103,6 +108,7 @@ pub trait Shelf {
         ensures cause { honest self.old → HasCause (failed self.old) result (failed self.new) }
         ensures armed { MakesAsArmed honest armed own store (RemovesObject kind name.now) self.old result self.new }
         ensures honest { honest self.old → honest self.new }
+        ensures unread { reads self.new ≡ reads self.old }
         ensures once { writes self.new ≤ writes self.old + 1 };
 
     /// The least names of a kind after the given one, at most `limit`. It changes nothing but the count
@@ -117,6 +123,7 @@ pub trait Shelf {
         ensures cause { honest self.old → HasCause (failed self.old) result (failed self.new) }
         ensures armed { honest self.old → MayReadAsArmed (armed self.old) (own self.old) result (armed self.new) (own self.new) }
         ensures honest { honest self.old → honest self.new }
+        ensures read { reads self.new ≤ reads self.old + 1 }
         ensures quiet { writes self.new ≡ writes self.old }
         ensures few { IfOk result (λ page. length page.names ≤ limit) }
         ensures names { IfOk result (λ page. All IsName page.names) };
@@ -127,6 +134,7 @@ pub trait Shelf {
         ensures cause { honest self.old → HasCause (failed self.old) result (failed self.new) }
         ensures armed { honest self.old → MayReadAsArmed (armed self.old) (own self.old) result (armed self.new) (own self.new) }
         ensures honest { honest self.old → honest self.new }
+        ensures read { reads self.new ≤ reads self.old + 1 }
         ensures quiet { writes self.new ≡ writes self.old };
 
     /// How a token's lock is live, by the ledger as it was saved last: `None` where it isn't, else whether it is
@@ -136,6 +144,7 @@ pub trait Shelf {
         ensures cause { honest self.old → HasCause (failed self.old) result (failed self.new) }
         ensures armed { honest self.old → MayReadAsArmed (armed self.old) (own self.old) result (armed self.new) (own self.new) }
         ensures honest { honest self.old → honest self.new }
+        ensures read { reads self.new ≤ reads self.old + 1 }
         ensures quiet { writes self.new ≡ writes self.old };
 
     /// Keeps the ledger in place of the one before. After a fault it may be kept or not.
@@ -144,6 +153,7 @@ pub trait Shelf {
         ensures cause { honest self.old → HasCause (failed self.old) result (failed self.new) }
         ensures armed { MakesAsArmed honest armed own store (SavesTokens ledger.now) self.old result self.new }
         ensures honest { honest self.old → honest self.new }
+        ensures unread { reads self.new ≡ reads self.old }
         ensures once { writes self.new ≤ writes self.old + 1 };
 
     /// The config's bytes, if there is one. It changes nothing but the count of failures.
@@ -152,6 +162,7 @@ pub trait Shelf {
         ensures cause { honest self.old → HasCause (failed self.old) result (failed self.new) }
         ensures armed { honest self.old → ReadsAsArmed (armed self.old) (own self.old) result (armed self.new) (own self.new) }
         ensures honest { honest self.old → honest self.new }
+        ensures read { reads self.new ≤ reads self.old + 1 }
         ensures quiet { writes self.new ≡ writes self.old };
 
     /// Keeps these bytes as the config. After a fault they may be kept or not.
@@ -160,6 +171,7 @@ pub trait Shelf {
         ensures cause { honest self.old → HasCause (failed self.old) result (failed self.new) }
         ensures armed { MakesAsArmed honest armed own store (SavesConfig bytes.now) self.old result self.new }
         ensures honest { honest self.old → honest self.new }
+        ensures unread { reads self.new ≡ reads self.old }
         ensures once { writes self.new ≤ writes self.old + 1 };
 
     /// How many calls have failed by the device's own fault. At its greatest the count stays.

@@ -68,6 +68,7 @@ pub fn answer_upgrade<S: Shelf>(alloc: Global, shelf: &mut S, token: Token) -> S
     ensures cause { S.honest shelf.old → SaysFault (S.failed shelf.old) result (S.failed shelf.new) }
     ensures armed { AnswersAsArmed S.honest S.armed S.own S.store shelf.old (Ask.Upgrade token) result shelf.new }
     ensures honest { S.honest shelf.old → S.honest shelf.new }
+    ensures read { S.reads shelf.new ≤ S.reads shelf.old + 2 }
     ensures once { S.writes shelf.new ≤ S.writes shelf.old + 1 }
     ensures quiet { S.honest shelf.old → IsQuiet (S.store shelf.old) (Ask.Upgrade token) → S.writes shelf.new ≡ S.writes shelf.old }
     ensures ruled_out { IsRuledOut result → S.writes shelf.new ≡ S.writes shelf.old }

@@ -28,6 +28,8 @@ impl Shelf for OnePage {
 
     ghost own = { λ _. 0 };
 
+    ghost reads = { λ _. 0 };
+
     ghost writes = { λ _. 0 };
 
     ghost honest = { λ _. ⊥ };
