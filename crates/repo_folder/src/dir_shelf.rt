@@ -78,6 +78,8 @@ impl<D: Disk> Shelf for DirShelf<D> {
 
     ghost writes = { λ d. 0 };
 
+    ghost faults = { λ d. 0 };
+
     ghost honest = { λ d. IsHonest (D.faithful d.folder.disk) d.folder.standing (D.state d.folder.disk) × HasLedger (D.state d.folder.disk).fate };
 
     fn get(&mut self, kind: Kind, name: &Name) -> Result<Option<Bytes>, ShelfError> {

@@ -49,9 +49,8 @@ has_failed own between owned less (stays, inr most) = inr most
 
 module _ (W : Store → Store → Type 0) (mid left : Armed) (own between owned : ℕ) (s new : Store) (less : own ≤ between) where
   spent : (x : Bool) (e : ShelfError) → fails_writing mid ≡ Some x → ArmIsSpent mid (Err e) left → IsLeft (HasFailed own owned) mid (refusal e) left
-  spent x ShelfError.Fault h is = inl (is_armed mid x h, is, inl refl)
-  spent x ShelfError.Memory h (inl is) = inl (is_armed mid x h, is, inr refl)
-  spent x ShelfError.Memory h (inr is) = inr (subst (StillWaits mid) (sym is) (waits_itself mid), λ told. absurd (unrefused told))
+  spent x ShelfError.Fault h is = inl (is_armed mid x h, is, refl)
+  spent x ShelfError.Memory h is = inr (subst (StillWaits mid) (sym is) (waits_itself mid), λ told. absurd (unrefused told))
 
   passed : (e : ShelfError) → HasCause {T = Unit {0}} between (Err e) owned → IsPassed mid (Err e) left → IsLeft (HasFailed own owned) mid (refusal e) left
   passed ShelfError.Fault cause is = inr (subst (StillWaits mid) (sym is) (waits_less mid), λ told. has_failed own between owned less cause)

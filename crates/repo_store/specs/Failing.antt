@@ -54,15 +54,10 @@ Failing Own Fail.Read old ask say new =
     (Looks old ask × (new ≡ old) × (say ≡ Say.Refused Code.Fault))
     ⊎ ((¬ IsAlwaysRead old ask say) × Plainly Own old ask say new)
 
--- a failure of the device is told, or the want of memory for which no such call was made again
-abbrev pub TellsFailure : Say → Type 0
-TellsFailure say = (say ≡ Say.Refused Code.Fault) ⊎ (say ≡ Say.Refused Code.NoMemory)
-
--- what is armed after a step: nothing, where it met its call, and then that is told, or want of memory; else it still waits, and a failure that is told is
--- the device's own
+-- what is armed after a step: nothing, if it met its call, and then a fault is told; else it still waits, and a fault that is told is the device's own
 abbrev pub IsLeft : Type 0 → Armed → Say → Armed → Type 0
 IsLeft Own armed say left =
-    ((armed ≢ Armed.Nothing) × (left ≡ Armed.Nothing) × TellsFailure say)
+    ((armed ≢ Armed.Nothing) × (left ≡ Armed.Nothing) × (say ≡ Say.Refused Code.Fault))
     ⊎ (StillWaits armed left × (say ≡ Say.Refused Code.Fault → Own))
 
 -- a step over a device that is told to fail in its next call of a sort, or in a later call, or not at all

@@ -1,4 +1,4 @@
-use Rattle.std.specs.Prelude.{◌≡◌, ◌≢◌, ◌⊎◌, ◌≤◌, ◌<◌, ⊤, ℕ, Bool, true, false, List, length, Option, Some, None, Result, Ok, Err}
+use Rattle.std.specs.Prelude.{◌≡◌, ◌≢◌, ◌⊎◌, ◌≤◌, ◌<◌, ◌+◌, ⊤, ℕ, Bool, true, false, List, length, Option, Some, None, Result, Ok, Err}
 use Rattle.repo_name.specs.declared.kinds.Kind.{Kind}
 use Rattle.repo_name.specs.declared.names.Name.{Name}
 use Rattle.repo_name.specs.declared.rows.LockRow.{LockRow}
@@ -209,6 +209,10 @@ Step old ask say new = Answers old ask say new ⊎ (Looks old ask × Fails old (
 -- the count of failures doesn't fall, and a fault is told only where it rose, or stands at its greatest
 abbrev pub SaysFault : ℕ → Say → ℕ → Type 0
 SaysFault old say new = (old ≤ new) × (say ≡ Say.Refused Code.Fault → (old < new) ⊎ (new ≡ greatest_count))
+
+-- of the device's calls one at most told a fault, and then that is what is said
+abbrev pub SaysItsFault : ℕ → Say → ℕ → Type 0
+SaysItsFault old say new = (new ≤ old + 1) × (say ≢ Say.Refused Code.Fault → new ≡ old)
 
 -- the device isn't asked to write for this: it is only read for; or a lock is live as it is asked for, or a number to be unlocked is neither fresh nor live,
 -- or the config that is to be of version 2 is so already

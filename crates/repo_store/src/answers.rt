@@ -6,7 +6,7 @@ ghost use Rattle.repo_wire.specs.Stream.{FitsFrame};
 ghost use Rattle.repo_store.specs.Runs.{Replies};
 ghost use Rattle.repo_store.specs.AppendOnly.{OnlyAppends};
 ghost use Rattle.repo_store.specs.Failing.{AnswersAsArmed};
-ghost use Rattle.repo_store.specs.StoreMachine.{reads_of, refusal, IsAnswerable, IsQuiet, IsRuledOut, Looks, Step, SaysFault};
+ghost use Rattle.repo_store.specs.StoreMachine.{reads_of, refusal, IsAnswerable, IsQuiet, IsRuledOut, Looks, Step, SaysFault, SaysItsFault};
 
 use crate::lock_answers::{
     answer_lock, answer_locks, answer_refresh, answer_ticket, answer_unlock,
@@ -38,6 +38,7 @@ fn say_to<S: Shelf>(alloc: Global, shelf: &mut S, ask: &Ask) -> Say
     ensures armed { AnswersAsArmed S.honest S.armed S.own S.store shelf.old ask.now result shelf.new }
     ensures honest { S.honest shelf.old → S.honest shelf.new }
     ensures before { S.honest shelf.old → ¬ Looks (S.store shelf.old) ask.now → shelf.new ≡ shelf.old }
+    ensures told { SaysItsFault (S.faults shelf.old) result (S.faults shelf.new) }
     ensures read { S.reads shelf.new ≤ S.reads shelf.old + reads_of ask.now }
     ensures once { S.writes shelf.new ≤ S.writes shelf.old + 1 }
     ensures quiet { S.honest shelf.old → IsQuiet (S.store shelf.old) ask.now → S.writes shelf.new ≡ S.writes shelf.old }
@@ -100,6 +101,7 @@ pub fn answer<S: Shelf>(alloc: Global, shelf: &mut S, request: &Request) -> Repl
     ensures armed { AnswersAsArmed S.honest S.armed S.own S.store shelf.old request.now.ask result.say shelf.new }
     ensures honest { S.honest shelf.old → S.honest shelf.new }
     ensures before { S.honest shelf.old → ¬ Looks (S.store shelf.old) request.now.ask → shelf.new ≡ shelf.old }
+    ensures told { SaysItsFault (S.faults shelf.old) result.say (S.faults shelf.new) }
     ensures read { S.reads shelf.new ≤ S.reads shelf.old + reads_of request.now.ask }
     ensures once { S.writes shelf.new ≤ S.writes shelf.old + 1 }
     ensures quiet { S.honest shelf.old → IsQuiet (S.store shelf.old) request.now.ask → S.writes shelf.new ≡ S.writes shelf.old }

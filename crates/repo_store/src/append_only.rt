@@ -46,6 +46,8 @@ impl<S: Shelf> Shelf for AppendOnly<S> {
 
     ghost writes = { λ a. S.writes a.inner };
 
+    ghost faults = { λ a. S.faults a.inner };
+
     ghost honest = { λ a. S.honest a.inner };
 
     fn get(&mut self, kind: Kind, name: &Name) -> Result<Option<Bytes>, ShelfError> {

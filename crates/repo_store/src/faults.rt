@@ -1,11 +1,11 @@
 //! A shelf that fails as it is told, around another.
 
-ghost use Rattle.std.specs.Prelude.{◌≡◌, ◌≢◌, ◌≤◌, ◌+◌, ◌^◌, ◌-◌, ℕ, min, length, option_map, All, Bool, true, false, Some, None, IfOk, IsErrOf};
+ghost use Rattle.std.specs.Prelude.{◌≡◌, ◌≢◌, ◌≤◌, ◌+◌, ◌^◌, ◌-◌, ℕ, min, length, option_map, All, Bool, true, false, Some, None, IfOk, Err, IsErrOf};
 ghost use Rattle.repo_name.specs.declared.kinds.Kind.{Kind};
 ghost use Rattle.repo_name.specs.Naming.{IsName};
 ghost use Rattle.repo_locks.specs.TokenMachine.{live_as};
-ghost use Rattle.repo_store.specs.Faults.{fails_reading, fails_writing, one_less, count_of, ReadsAsArmed, WritesThenFails};
-ghost use Rattle.repo_store.specs.Laws.{Reads, Writes, HasCause};
+ghost use Rattle.repo_store.specs.Faults.{fails_reading, fails_writing, one_less, count_of, ReadsAsArmed, ArmIsSpent};
+ghost use Rattle.repo_store.specs.Laws.{Reads, Writes, HasCause, CountsFaults};
 ghost use Rattle.repo_store.specs.Pages.{ReadsPage};
 ghost use Rattle.repo_store.specs.Slices.{IsSlice, HasLength};
 ghost use Rattle.repo_store.specs.Stores.{PutsObject, RemovesObject, SavesTokens, SavesConfig};
@@ -37,7 +37,7 @@ pub enum Armed {
     Call { number: u64, applied: bool },
 }
 
-/// A shelf around another, which fails in just the call that was armed, and counts that failure. All
+/// A shelf around another, which fails in just the call that was armed, and counts that failure once. All
 /// other calls are the inner shelf's.
 #[derive(Debug, Drop)]
 pub struct FaultShelf<S> {
@@ -82,13 +82,30 @@ impl<S> FaultShelf<S> {
     }
 
     /// Counts one failure more, and arms nothing.
-    fn fail(&mut self)
+    fn fail(&mut self) -> ShelfError
+        ensures fault { result ≡ ShelfError.Fault }
         ensures inner { self.new.inner ≡ self.old.inner }
         ensures armed { self.new.armed ≡ Armed.Nothing }
         ensures count { self.new.count ≡ min (self.old.count + 1) (2 ^ 64 - 1) }
     {
         self.armed = Armed::Nothing;
         self.count = self.count.saturating_add(1);
+        ShelfError::Fault
+    }
+
+    /// The inner shelf failed in the armed call. A fault of its own is told in place of the armed one, and the inner
+    /// shelf counts it. Without memory the call is armed still.
+    fn failed(&mut self, error: ShelfError) -> ShelfError
+        ensures error { result ≡ error }
+        ensures inner { self.new.inner ≡ self.old.inner }
+        ensures spent { ArmIsSpent self.old.armed (Err error) self.new.armed }
+        ensures count { self.new.count ≡ self.old.count }
+    {
+        match error {
+            ShelfError::Fault => self.disarm(),
+            ShelfError::Memory => {}
+        }
+        error
     }
 
     /// Passes a call that isn't the armed one.
@@ -122,23 +139,22 @@ impl<S> FaultShelf<S> {
         true
     }
 
-    /// Whether this writing call is the armed one, and then whether its change is made.
+    /// Whether this writing call is the armed one, and then whether its change is made. Any other one passes.
     fn fails_writing(&mut self) -> Option<bool>
         ensures fails { result ≡ fails_writing self.old.armed }
         ensures inner { self.new.inner ≡ self.old.inner }
-        ensures armed { result ≢ None → (self.new.armed ≡ Armed.Nothing) × (self.new.count ≡ min (self.old.count + 1) (2 ^ 64 - 1)) }
-        ensures other { result ≡ None → (self.new.armed ≡ one_less self.old.armed) × (self.new.count ≡ self.old.count) }
+        ensures armed { result ≢ None → self.new.armed ≡ self.old.armed }
+        ensures other { result ≡ None → self.new.armed ≡ one_less self.old.armed }
+        ensures count { self.new.count ≡ self.old.count }
     {
-        let applied = match self.armed {
-            Armed::Next(Fail::Write(applied)) => applied,
-            Armed::Call { number, applied } if number == 1 => applied,
+        match self.armed {
+            Armed::Next(Fail::Write(applied)) => Some(applied),
+            Armed::Call { number, applied } if number == 1 => Some(applied),
             _ => {
                 self.pass();
-                return None;
+                None
             }
-        };
-        self.fail();
-        Some(applied)
+        }
     }
 }
 
@@ -156,6 +172,8 @@ impl<S: Shelf> Shelf for FaultShelf<S> {
     ghost reads = { λ f. S.reads f.inner };
 
     ghost writes = { λ f. S.writes f.inner };
+
+    ghost faults = { λ f. S.faults f.inner + f.count };
 
     ghost honest = { λ f. S.honest f.inner };
 
@@ -176,22 +194,22 @@ impl<S: Shelf> Shelf for FaultShelf<S> {
     fn put(&mut self, kind: Kind, name: &Name, bytes: &[u8]) -> Result<(), ShelfError> {
         match self.fails_writing() {
             None => self.inner.put(kind, name, bytes),
-            Some(false) => Err(ShelfError::Fault),
-            Some(true) => {
-                self.inner.put(kind, name, bytes)?;
-                Err(ShelfError::Fault)
-            }
+            Some(false) => Err(self.fail()),
+            Some(true) => match self.inner.put(kind, name, bytes) {
+                Ok(()) => Err(self.fail()),
+                Err(error) => Err(self.failed(error)),
+            },
         }
     }
 
     fn remove(&mut self, kind: Kind, name: &Name) -> Result<(), ShelfError> {
         match self.fails_writing() {
             None => self.inner.remove(kind, name),
-            Some(false) => Err(ShelfError::Fault),
-            Some(true) => {
-                self.inner.remove(kind, name)?;
-                Err(ShelfError::Fault)
-            }
+            Some(false) => Err(self.fail()),
+            Some(true) => match self.inner.remove(kind, name) {
+                Ok(()) => Err(self.fail()),
+                Err(error) => Err(self.failed(error)),
+            },
         }
     }
 
@@ -205,6 +223,7 @@ impl<S: Shelf> Shelf for FaultShelf<S> {
         ensures cause { S.honest self.old.inner → HasCause (count_of (S.failed self.old.inner) self.old.count) result (count_of (S.failed self.new.inner) self.new.count) }
         ensures armed { S.honest self.old.inner → ReadsAsArmed self.old.armed (S.failed self.old.inner) result self.new.armed (S.failed self.new.inner) }
         ensures honest { S.honest self.old.inner → S.honest self.new.inner }
+        ensures told { CountsFaults (S.faults self.old.inner + self.old.count) result (S.faults self.new.inner + self.new.count) }
         ensures read { S.reads self.new.inner ≤ S.reads self.old.inner + 1 }
         ensures quiet { S.writes self.new.inner ≡ S.writes self.old.inner }
         ensures few { IfOk result (λ page. length page.names ≤ limit) }
@@ -221,6 +240,7 @@ impl<S: Shelf> Shelf for FaultShelf<S> {
         ensures cause { S.honest self.old.inner → HasCause (count_of (S.failed self.old.inner) self.old.count) result (count_of (S.failed self.new.inner) self.new.count) }
         ensures armed { S.honest self.old.inner → ReadsAsArmed self.old.armed (S.failed self.old.inner) result self.new.armed (S.failed self.new.inner) }
         ensures honest { S.honest self.old.inner → S.honest self.new.inner }
+        ensures told { CountsFaults (S.faults self.old.inner + self.old.count) result (S.faults self.new.inner + self.new.count) }
         ensures read { S.reads self.new.inner ≤ S.reads self.old.inner + 1 }
         ensures quiet { S.writes self.new.inner ≡ S.writes self.old.inner }
     {
@@ -235,6 +255,7 @@ impl<S: Shelf> Shelf for FaultShelf<S> {
         ensures cause { S.honest self.old.inner → HasCause (count_of (S.failed self.old.inner) self.old.count) result (count_of (S.failed self.new.inner) self.new.count) }
         ensures armed { S.honest self.old.inner → ReadsAsArmed self.old.armed (S.failed self.old.inner) result self.new.armed (S.failed self.new.inner) }
         ensures honest { S.honest self.old.inner → S.honest self.new.inner }
+        ensures told { CountsFaults (S.faults self.old.inner + self.old.count) result (S.faults self.new.inner + self.new.count) }
         ensures read { S.reads self.new.inner ≤ S.reads self.old.inner + 1 }
         ensures quiet { S.writes self.new.inner ≡ S.writes self.old.inner }
     {
@@ -247,11 +268,11 @@ impl<S: Shelf> Shelf for FaultShelf<S> {
     fn save_ledger(&mut self, ledger: &Ledger) -> Result<(), ShelfError> {
         match self.fails_writing() {
             None => self.inner.save_ledger(ledger),
-            Some(false) => Err(ShelfError::Fault),
-            Some(true) => {
-                self.inner.save_ledger(ledger)?;
-                Err(ShelfError::Fault)
-            }
+            Some(false) => Err(self.fail()),
+            Some(true) => match self.inner.save_ledger(ledger) {
+                Ok(()) => Err(self.fail()),
+                Err(error) => Err(self.failed(error)),
+            },
         }
     }
 
@@ -265,11 +286,11 @@ impl<S: Shelf> Shelf for FaultShelf<S> {
     fn save_config(&mut self, bytes: &[u8]) -> Result<(), ShelfError> {
         match self.fails_writing() {
             None => self.inner.save_config(bytes),
-            Some(false) => Err(ShelfError::Fault),
-            Some(true) => {
-                self.inner.save_config(bytes)?;
-                Err(ShelfError::Fault)
-            }
+            Some(false) => Err(self.fail()),
+            Some(true) => match self.inner.save_config(bytes) {
+                Ok(()) => Err(self.fail()),
+                Err(error) => Err(self.failed(error)),
+            },
         }
     }
 

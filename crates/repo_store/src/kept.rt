@@ -107,6 +107,8 @@ impl<S: Shelf> Shelf for Kept<S> {
 
     ghost writes = { λ k. S.writes k.inner };
 
+    ghost faults = { λ k. S.faults k.inner };
+
     ghost honest = { λ k. S.honest k.inner × Agrees k.known (S.store k.inner) };
 
     fn get(&mut self, kind: Kind, name: &Name) -> Result<Option<Bytes>, ShelfError> {

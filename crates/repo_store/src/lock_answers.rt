@@ -5,7 +5,7 @@ ghost use Rattle.repo_name.specs.Rows.{IsHost};
 ghost use Rattle.repo_wire.specs.declared.messages.Ask.{Ask};
 ghost use Rattle.repo_wire.specs.Messages.{IsSay, IsShortSay};
 ghost use Rattle.repo_store.specs.Failing.{AnswersAsArmed};
-ghost use Rattle.repo_store.specs.StoreMachine.{lock_refusal, IsQuiet, IsRuledOut, Step, SaysFault};
+ghost use Rattle.repo_store.specs.StoreMachine.{lock_refusal, IsQuiet, IsRuledOut, Step, SaysFault, SaysItsFault};
 
 use crate::answers::refusal;
 use crate::shelves::Shelf;
@@ -33,6 +33,7 @@ pub fn answer_ticket<S: Shelf>(shelf: &mut S) -> Say
     ensures cause { S.honest shelf.old → SaysFault (S.failed shelf.old) result (S.failed shelf.new) }
     ensures armed { AnswersAsArmed S.honest S.armed S.own S.store shelf.old Ask.Ticket result shelf.new }
     ensures honest { S.honest shelf.old → S.honest shelf.new }
+    ensures told { SaysItsFault (S.faults shelf.old) result (S.faults shelf.new) }
     ensures read { S.reads shelf.new ≤ S.reads shelf.old + 1 }
     ensures once { S.writes shelf.new ≤ S.writes shelf.old + 1 }
     ensures ruled_out { IsRuledOut result → S.writes shelf.new ≡ S.writes shelf.old }
@@ -60,6 +61,7 @@ pub fn answer_lock<S: Shelf>(shelf: &mut S, row: &LockRow) -> Say
     ensures cause { S.honest shelf.old → SaysFault (S.failed shelf.old) result (S.failed shelf.new) }
     ensures armed { AnswersAsArmed S.honest S.armed S.own S.store shelf.old (Ask.Lock row.now) result shelf.new }
     ensures honest { S.honest shelf.old → S.honest shelf.new }
+    ensures told { SaysItsFault (S.faults shelf.old) result (S.faults shelf.new) }
     ensures read { S.reads shelf.new ≤ S.reads shelf.old + 1 }
     ensures once { S.writes shelf.new ≤ S.writes shelf.old + 1 }
     ensures quiet { S.honest shelf.old → IsQuiet (S.store shelf.old) (Ask.Lock row.now) → S.writes shelf.new ≡ S.writes shelf.old }
@@ -87,6 +89,7 @@ pub fn answer_refresh<S: Shelf>(shelf: &mut S, token: Token, time: u64) -> Say
     ensures cause { S.honest shelf.old → SaysFault (S.failed shelf.old) result (S.failed shelf.new) }
     ensures armed { AnswersAsArmed S.honest S.armed S.own S.store shelf.old (Ask.Refresh token time) result shelf.new }
     ensures honest { S.honest shelf.old → S.honest shelf.new }
+    ensures told { SaysItsFault (S.faults shelf.old) result (S.faults shelf.new) }
     ensures read { S.reads shelf.new ≤ S.reads shelf.old + 1 }
     ensures once { S.writes shelf.new ≤ S.writes shelf.old + 1 }
     ensures ruled_out { IsRuledOut result → S.writes shelf.new ≡ S.writes shelf.old }
@@ -112,6 +115,7 @@ pub fn answer_unlock<S: Shelf>(shelf: &mut S, token: Token) -> Say
     ensures cause { S.honest shelf.old → SaysFault (S.failed shelf.old) result (S.failed shelf.new) }
     ensures armed { AnswersAsArmed S.honest S.armed S.own S.store shelf.old (Ask.Unlock token) result shelf.new }
     ensures honest { S.honest shelf.old → S.honest shelf.new }
+    ensures told { SaysItsFault (S.faults shelf.old) result (S.faults shelf.new) }
     ensures read { S.reads shelf.new ≤ S.reads shelf.old + 1 }
     ensures once { S.writes shelf.new ≤ S.writes shelf.old + 1 }
     ensures quiet { S.honest shelf.old → IsQuiet (S.store shelf.old) (Ask.Unlock token) → S.writes shelf.new ≡ S.writes shelf.old }
@@ -137,6 +141,7 @@ pub fn answer_locks<S: Shelf>(alloc: Global, shelf: &mut S) -> Say
     ensures cause { S.honest shelf.old → SaysFault (S.failed shelf.old) result (S.failed shelf.new) }
     ensures armed { AnswersAsArmed S.honest S.armed S.own S.store shelf.old Ask.Locks result shelf.new }
     ensures honest { S.honest shelf.old → S.honest shelf.new }
+    ensures told { SaysItsFault (S.faults shelf.old) result (S.faults shelf.new) }
     ensures read { S.reads shelf.new ≤ S.reads shelf.old + 1 }
     ensures quiet { S.writes shelf.new ≡ S.writes shelf.old }
     ensures within { IsSay result × IsShortSay result }

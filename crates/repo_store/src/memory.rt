@@ -153,6 +153,8 @@ impl Shelf for MemShelf {
 
     ghost writes = { λ _. 0 };
 
+    ghost faults = { λ _. 0 };
+
     ghost honest = { λ _. ⊤ };
 
     fn get(&mut self, kind: Kind, name: &Name) -> Result<Option<Bytes>, ShelfError> {

@@ -5,7 +5,7 @@ ghost use Rattle.repo_name.specs.declared.names.Name.{Name};
 ghost use Rattle.repo_wire.specs.declared.messages.Ask.{Ask};
 ghost use Rattle.repo_wire.specs.Messages.{IsSay, IsShortSay};
 ghost use Rattle.repo_store.specs.Failing.{AnswersAsArmed};
-ghost use Rattle.repo_store.specs.StoreMachine.{object_limit, config_limit, range_limit, GetSays, IsRuledOut, Step, SaysFault, Looks};
+ghost use Rattle.repo_store.specs.StoreMachine.{object_limit, config_limit, range_limit, GetSays, IsRuledOut, Step, SaysFault, SaysItsFault, Looks};
 ghost use Rattle.repo_name.specs.Limits.{fields_limit};
 
 use crate::answers::refusal;
@@ -52,6 +52,7 @@ pub fn answer_list<S: Shelf>(shelf: &mut S, kind: Kind, after: Option<&Name>) ->
     ensures cause { S.honest shelf.old → SaysFault (S.failed shelf.old) result (S.failed shelf.new) }
     ensures armed { AnswersAsArmed S.honest S.armed S.own S.store shelf.old (Ask.List kind (option_map (λ name. name.now) after.entry)) result shelf.new }
     ensures honest { S.honest shelf.old → S.honest shelf.new }
+    ensures told { SaysItsFault (S.faults shelf.old) result (S.faults shelf.new) }
     ensures read { S.reads shelf.new ≤ S.reads shelf.old + 1 }
     ensures quiet { S.writes shelf.new ≡ S.writes shelf.old }
     ensures within { IsSay result × IsShortSay result }
@@ -71,6 +72,7 @@ pub fn answer_get<S: Shelf>(shelf: &mut S, kind: Kind, name: &Name) -> Say
     ensures cause { S.honest shelf.old → SaysFault (S.failed shelf.old) result (S.failed shelf.new) }
     ensures armed { AnswersAsArmed S.honest S.armed S.own S.store shelf.old (Ask.Get kind name.now) result shelf.new }
     ensures honest { S.honest shelf.old → S.honest shelf.new }
+    ensures told { SaysItsFault (S.faults shelf.old) result (S.faults shelf.new) }
     ensures read { S.reads shelf.new ≤ S.reads shelf.old + 1 }
     ensures quiet { S.writes shelf.new ≡ S.writes shelf.old }
     ensures within { IsSay result × IsShortSay result }
@@ -87,6 +89,7 @@ pub fn answer_config<S: Shelf>(shelf: &mut S) -> Say
     ensures cause { S.honest shelf.old → SaysFault (S.failed shelf.old) result (S.failed shelf.new) }
     ensures armed { AnswersAsArmed S.honest S.armed S.own S.store shelf.old Ask.Config result shelf.new }
     ensures honest { S.honest shelf.old → S.honest shelf.new }
+    ensures told { SaysItsFault (S.faults shelf.old) result (S.faults shelf.new) }
     ensures read { S.reads shelf.new ≤ S.reads shelf.old + 1 }
     ensures quiet { S.writes shelf.new ≡ S.writes shelf.old }
     ensures within { IsSay result × IsShortSay result }
@@ -104,6 +107,7 @@ pub fn answer_range<S: Shelf>(shelf: &mut S, pack: &Name, offset: u32, length: u
     ensures armed { AnswersAsArmed S.honest S.armed S.own S.store shelf.old (Ask.Range pack.now offset length) result shelf.new }
     ensures honest { S.honest shelf.old → S.honest shelf.new }
     ensures before { ¬ Looks (S.store shelf.old) (Ask.Range pack.now offset length) → shelf.new ≡ shelf.old }
+    ensures told { SaysItsFault (S.faults shelf.old) result (S.faults shelf.new) }
     ensures read { S.reads shelf.new ≤ S.reads shelf.old + 1 }
     ensures quiet { S.writes shelf.new ≡ S.writes shelf.old }
     ensures within { IsSay result × IsShortSay result }
@@ -132,6 +136,7 @@ pub fn answer_put<S: Shelf>(
     ensures armed { AnswersAsArmed S.honest S.armed S.own S.store shelf.old (Ask.Put token kind name.now bytes.now) result shelf.new }
     ensures honest { S.honest shelf.old → S.honest shelf.new }
     ensures before { ¬ Looks (S.store shelf.old) (Ask.Put token kind name.now bytes.now) → shelf.new ≡ shelf.old }
+    ensures told { SaysItsFault (S.faults shelf.old) result (S.faults shelf.new) }
     ensures read { S.reads shelf.new ≤ S.reads shelf.old + 1 }
     ensures once { S.writes shelf.new ≤ S.writes shelf.old + 1 }
     ensures ruled_out { IsRuledOut result → S.writes shelf.new ≡ S.writes shelf.old }
@@ -164,6 +169,7 @@ pub fn answer_delete<S: Shelf>(shelf: &mut S, token: Token, kind: Kind, name: &N
     ensures armed { AnswersAsArmed S.honest S.armed S.own S.store shelf.old (Ask.Delete token kind name.now) result shelf.new }
     ensures honest { S.honest shelf.old → S.honest shelf.new }
     ensures before { S.honest shelf.old → ¬ Looks (S.store shelf.old) (Ask.Delete token kind name.now) → shelf.new ≡ shelf.old }
+    ensures told { SaysItsFault (S.faults shelf.old) result (S.faults shelf.new) }
     ensures read { S.reads shelf.new ≤ S.reads shelf.old + 1 }
     ensures once { S.writes shelf.new ≤ S.writes shelf.old + 1 }
     ensures ruled_out { IsRuledOut result → S.writes shelf.new ≡ S.writes shelf.old }

@@ -3,7 +3,7 @@
 ghost use Rattle.std.specs.Prelude.{◌≡◌, ◌↔◌, ◌≤◌, ◌<◌, ◌+◌, ◌-◌, ◌^◌, None, false, length, IsTrue, OnOk};
 ghost use Rattle.repo_store.specs.Faults.{MayReadAsArmed};
 ghost use Rattle.repo_store.specs.Kept.{PageJoins, ReadsNames};
-ghost use Rattle.repo_store.specs.Laws.{HasCause};
+ghost use Rattle.repo_store.specs.Laws.{HasCause, CountsFaults};
 ghost use Rattle.repo_store.specs.Pages.{Above, NamesAscend, PageRises};
 
 use crate::known::NameSet;
@@ -72,6 +72,7 @@ pub fn all_names<S: Shelf>(alloc: Global, shelf: &mut S, kind: Kind) -> Result<N
     ensures cause { S.honest shelf.old → HasCause (S.failed shelf.old) result (S.failed shelf.new) }
     ensures armed { S.honest shelf.old → MayReadAsArmed (S.armed shelf.old) (S.own shelf.old) result (S.armed shelf.new) (S.own shelf.new) }
     ensures honest { S.honest shelf.old → S.honest shelf.new }
+    ensures told { CountsFaults (S.faults shelf.old) result (S.faults shelf.new) }
     ensures read { S.reads shelf.new ≤ S.reads shelf.old + 1 }
     ensures quiet { S.writes shelf.new ≡ S.writes shelf.old }
 {

@@ -5,7 +5,7 @@ ghost use Rattle.repo_name.specs.declared.kinds.Kind.{Kind};
 ghost use Rattle.repo_name.specs.Naming.{IsName};
 ghost use Rattle.repo_locks.specs.TokenMachine.{live_as};
 ghost use Rattle.repo_store.specs.Faults.{ReadsAsArmed, MayReadAsArmed, MakesAsArmed};
-ghost use Rattle.repo_store.specs.Laws.{Reads, Writes, HasCause};
+ghost use Rattle.repo_store.specs.Laws.{Reads, Writes, HasCause, CountsFaults};
 ghost use Rattle.repo_store.specs.Pages.{ReadsPage};
 ghost use Rattle.repo_store.specs.Slices.{IsSlice, HasLength};
 ghost use Rattle.repo_store.specs.declared.faults.Armed.{Armed};
@@ -70,6 +70,8 @@ pub trait Shelf {
     ghost reads: { Self → ℕ };
     /// How many writing calls were made, as far as the device counts them.
     ghost writes: { Self → ℕ };
+    /// How many calls told a fault, as far as the device counts them.
+    ghost faults: { Self → ℕ };
     /// The device keeps what it was given.
     ghost honest: { Self → Type 0 };
 
@@ -79,6 +81,7 @@ pub trait Shelf {
         ensures cause { honest self.old → HasCause (failed self.old) result (failed self.new) }
         ensures armed { honest self.old → ReadsAsArmed (armed self.old) (own self.old) result (armed self.new) (own self.new) }
         ensures honest { honest self.old → honest self.new }
+        ensures told { CountsFaults (faults self.old) result (faults self.new) }
         ensures read { reads self.new ≤ reads self.old + 1 }
         ensures quiet { writes self.new ≡ writes self.old };
 
@@ -88,6 +91,7 @@ pub trait Shelf {
         ensures cause { honest self.old → HasCause (failed self.old) result (failed self.new) }
         ensures armed { honest self.old → ReadsAsArmed (armed self.old) (own self.old) result (armed self.new) (own self.new) }
         ensures honest { honest self.old → honest self.new }
+        ensures told { CountsFaults (faults self.old) result (faults self.new) }
         ensures read { reads self.new ≤ reads self.old + 1 }
         ensures quiet { writes self.new ≡ writes self.old }
         ensures length { IfOk result (HasLength length) };
@@ -99,6 +103,7 @@ pub trait Shelf {
         ensures cause { honest self.old → HasCause (failed self.old) result (failed self.new) }
         ensures armed { MakesAsArmed honest armed own store (PutsObject kind name.now bytes.now) self.old result self.new }
         ensures honest { honest self.old → honest self.new }
+        ensures told { CountsFaults (faults self.old) result (faults self.new) }
         ensures unread { reads self.new ≡ reads self.old }
         ensures once { writes self.new ≤ writes self.old + 1 };
 
@@ -108,6 +113,7 @@ pub trait Shelf {
         ensures cause { honest self.old → HasCause (failed self.old) result (failed self.new) }
         ensures armed { MakesAsArmed honest armed own store (RemovesObject kind name.now) self.old result self.new }
         ensures honest { honest self.old → honest self.new }
+        ensures told { CountsFaults (faults self.old) result (faults self.new) }
         ensures unread { reads self.new ≡ reads self.old }
         ensures once { writes self.new ≤ writes self.old + 1 };
 
@@ -123,6 +129,7 @@ pub trait Shelf {
         ensures cause { honest self.old → HasCause (failed self.old) result (failed self.new) }
         ensures armed { honest self.old → MayReadAsArmed (armed self.old) (own self.old) result (armed self.new) (own self.new) }
         ensures honest { honest self.old → honest self.new }
+        ensures told { CountsFaults (faults self.old) result (faults self.new) }
         ensures read { reads self.new ≤ reads self.old + 1 }
         ensures quiet { writes self.new ≡ writes self.old }
         ensures few { IfOk result (λ page. length page.names ≤ limit) }
@@ -134,6 +141,7 @@ pub trait Shelf {
         ensures cause { honest self.old → HasCause (failed self.old) result (failed self.new) }
         ensures armed { honest self.old → MayReadAsArmed (armed self.old) (own self.old) result (armed self.new) (own self.new) }
         ensures honest { honest self.old → honest self.new }
+        ensures told { CountsFaults (faults self.old) result (faults self.new) }
         ensures read { reads self.new ≤ reads self.old + 1 }
         ensures quiet { writes self.new ≡ writes self.old };
 
@@ -144,6 +152,7 @@ pub trait Shelf {
         ensures cause { honest self.old → HasCause (failed self.old) result (failed self.new) }
         ensures armed { honest self.old → MayReadAsArmed (armed self.old) (own self.old) result (armed self.new) (own self.new) }
         ensures honest { honest self.old → honest self.new }
+        ensures told { CountsFaults (faults self.old) result (faults self.new) }
         ensures read { reads self.new ≤ reads self.old + 1 }
         ensures quiet { writes self.new ≡ writes self.old };
 
@@ -153,6 +162,7 @@ pub trait Shelf {
         ensures cause { honest self.old → HasCause (failed self.old) result (failed self.new) }
         ensures armed { MakesAsArmed honest armed own store (SavesTokens ledger.now) self.old result self.new }
         ensures honest { honest self.old → honest self.new }
+        ensures told { CountsFaults (faults self.old) result (faults self.new) }
         ensures unread { reads self.new ≡ reads self.old }
         ensures once { writes self.new ≤ writes self.old + 1 };
 
@@ -162,6 +172,7 @@ pub trait Shelf {
         ensures cause { honest self.old → HasCause (failed self.old) result (failed self.new) }
         ensures armed { honest self.old → ReadsAsArmed (armed self.old) (own self.old) result (armed self.new) (own self.new) }
         ensures honest { honest self.old → honest self.new }
+        ensures told { CountsFaults (faults self.old) result (faults self.new) }
         ensures read { reads self.new ≤ reads self.old + 1 }
         ensures quiet { writes self.new ≡ writes self.old };
 
@@ -171,6 +182,7 @@ pub trait Shelf {
         ensures cause { honest self.old → HasCause (failed self.old) result (failed self.new) }
         ensures armed { MakesAsArmed honest armed own store (SavesConfig bytes.now) self.old result self.new }
         ensures honest { honest self.old → honest self.new }
+        ensures told { CountsFaults (faults self.old) result (faults self.new) }
         ensures unread { reads self.new ≡ reads self.old }
         ensures once { writes self.new ≤ writes self.old + 1 };
 

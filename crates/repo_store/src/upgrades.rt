@@ -6,7 +6,7 @@ ghost use Rattle.repo_wire.specs.declared.messages.Ask.{Ask};
 ghost use Rattle.repo_wire.specs.declared.messages.Code.{Code};
 ghost use Rattle.repo_wire.specs.Messages.{IsSay, IsShortSay};
 ghost use Rattle.repo_store.specs.Failing.{AnswersAsArmed};
-ghost use Rattle.repo_store.specs.StoreMachine.{IsQuiet, IsRuledOut, Step, SaysFault};
+ghost use Rattle.repo_store.specs.StoreMachine.{IsQuiet, IsRuledOut, Step, SaysFault, SaysItsFault};
 ghost use Rattle.repo_store.specs.Upgrades.{IsDue};
 
 use crate::answers::refusal;
@@ -68,6 +68,7 @@ pub fn answer_upgrade<S: Shelf>(alloc: Global, shelf: &mut S, token: Token) -> S
     ensures cause { S.honest shelf.old → SaysFault (S.failed shelf.old) result (S.failed shelf.new) }
     ensures armed { AnswersAsArmed S.honest S.armed S.own S.store shelf.old (Ask.Upgrade token) result shelf.new }
     ensures honest { S.honest shelf.old → S.honest shelf.new }
+    ensures told { SaysItsFault (S.faults shelf.old) result (S.faults shelf.new) }
     ensures read { S.reads shelf.new ≤ S.reads shelf.old + 2 }
     ensures once { S.writes shelf.new ≤ S.writes shelf.old + 1 }
     ensures quiet { S.honest shelf.old → IsQuiet (S.store shelf.old) (Ask.Upgrade token) → S.writes shelf.new ≡ S.writes shelf.old }

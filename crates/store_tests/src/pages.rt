@@ -32,6 +32,8 @@ impl Shelf for OnePage {
 
     ghost writes = { λ _. 0 };
 
+    ghost faults = { λ _. 0 };
+
     ghost honest = { λ _. ⊥ };
 
     fn get(&mut self, _: Kind, _: &Name) -> Result<Option<Bytes>, ShelfError> {
