@@ -88,8 +88,9 @@ fn reply_to(instance: Instance, sequence: u64, say: Say) -> Reply
 /// instance and sequence, and fits a frame.
 ///
 /// Code 10 is said only where the shelf failed in this call, by itself or as it was told to; the store is then
-/// as before, or as after the answer that the request would have had. What a shelf was told to fail in fails in
-/// just that call, and then no more. After every other refusal the store is as before. A store that only appends
+/// as before, or as after the answer that the request would have had. It is said whenever a call of the shelf told
+/// a fault. What a shelf was told to fail in fails in just that call, and then no more: before any change if that
+/// is a reading call, and else before or after the change, as the shelf was told. After every other refusal the store is as before. A store that only appends
 /// keeps each object. The shelf is read at most once, for an upgrade at most twice, and asked to write at most once; and not at all for a request that only reads, a
 /// lock that is held already, an unlock that changes nothing, an upgrade of a config that is of version 2
 /// already, and where the refusal is another than 10 and 11. What is answered before the shelf is looked at leaves it as it was.

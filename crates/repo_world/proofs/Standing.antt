@@ -48,7 +48,7 @@ steps_plainly own owned left old ask say new (s, armed) = (s, caused armed.0)
 
 -- a call of a sort is armed: the step fails so
 pub steps_failing : (own owned : ℕ) (fail : Fail) (left : Armed) (old : Store) (ask : Ask) (say : Say) (new : Store) → StepsAsArmed (Armed.Next fail) own left owned old ask say new → Failing (HasFailed own owned) fail old ask say new
-steps_failing own owned fail left old ask say new (s, armed) = armed.1 fail refl
+steps_failing own owned fail left old ask say new (s, armed) = armed.1
 
 -- ---- anybody asks
 
