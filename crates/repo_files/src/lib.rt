@@ -4,7 +4,8 @@
 //! A [`FolderWalk`] gives what a folder holds, as a source of a backup that feeds itself: its directories and its files,
 //! one item after another, each file in pieces, so that nobody holds it all. Links, sockets and the like are left out, and
 //! listed. A [`Restorer`] writes what a restore gives out: each file
-//! under a temporary name until it is whole, and syncs all of it, each file by the handle that wrote it. [`is_safe_target`] says
+//! under a temporary name until it is whole, and syncs all of it, each file by the handle that wrote it. Behind the close of a file its
+//! length has to be right. Calls on paths that are interrupted are made again. [`is_safe_target`] says
 //! whether another user could lead a restore of root elsewhere. A [`FileDisk`] is a store's folder as a
 //! [`repo_disk::Disk`]: each of its calls is one or two calls of the system. It holds its folder, by a lock on a file, so
 //! that there is one at a time. [`create_store`] and [`open_store`] look whether the folder may be made a store, or is

@@ -51,9 +51,9 @@ fn sorted(mut names: Vec<String>) -> Vec<String> {
     names
 }
 
-/// The entries of a directory that other programs may change meanwhile: the names that either of two listings gives. So a name is
-/// missing only if both listings lack it. They come ascending, each once. `directory` is what the path led to before. If it leads to another directory behind the
-/// listings, or the directory was removed, the error is of the kind `NotFound`.
+/// The entries of a directory that other programs may change meanwhile: the names that either of two listings gives, ascending, each once.
+/// So a name is missing only if both listings lack it. `directory` is what the path led to before. If it leads to another directory
+/// behind the listings, or the directory was removed, the error is of the kind `NotFound`.
 pub fn entries_in<R: Files + AllocGlobal + Clone + Drop>(
     rt: &R,
     path: &str,
@@ -70,8 +70,8 @@ pub fn entries_in<R: Files + AllocGlobal + Clone + Drop>(
     })
 }
 
-/// The entries of a directory that no other program changes, ascending. Two listings have to give the same entries, and the directory has to be
-/// there behind them: else this is an error.
+/// The entries of a directory that no other program changes, ascending. Two listings have to give the same entries, and the directory
+/// has to be there behind them: else this is an error.
 pub fn entries_at_rest<R: Files + AllocGlobal + Clone + Drop>(
     rt: &R,
     path: &str,

@@ -34,7 +34,8 @@ use std::{io, mem};
 /// the folder is looked at first ([`is_safe_target`]). What is made is its owner's alone.
 ///
 /// Each file is synced by the handle that wrote it, once it has its own name. Up to 100 files wait for that and stay open; they are
-/// synced earlier if they have 64 MiB together, or if the process can open no further file. [`Restorer::finish`] syncs those that are
+/// synced earlier if they have 64 MiB together, or if the process can open no further file. Then they are closed, and each has to have
+/// the length that was written to it: a file system may refuse bytes at the close. [`Restorer::finish`] syncs those that are
 /// left, and then every directory, each once. Only then is all of it on the disk: a power cut before the end may leave any part of it,
 /// even a file under its own name that is cut short. If the file system can't sync directories, that is no error.
 pub struct Restorer<R: Files> {
@@ -86,8 +87,8 @@ impl<R: Files + AllocGlobal + Clone + Drop> Restorer<R> {
     }
 
     /// Writes the next part. It returns false if the folder, a file or a directory can't be made or written, or if a file that was
-    /// written before can't be synced. It also returns false if a path isn't one, or if a part doesn't belong there. Nothing more is
-    /// taken then. A file that is open then is removed; what was written before it stays.
+    /// written before can't be synced, or has another length once it is closed. It also returns false if a path isn't one, or if a part
+    /// doesn't belong there. Nothing more is taken then. A file that is open then is removed; what was written before it stays.
     pub fn write(&mut self, emission: &Emission) -> bool
         ensures taken { IsTrue result → TakesEmission self.old emission.now self.new }
         ensures stopped { IsFalse result → self.new ≡ Standing.Stopped }
@@ -103,8 +104,9 @@ impl<R: Files + AllocGlobal + Clone + Drop> Restorer<R> {
     }
 
     /// Syncs all that was written and isn't synced yet, and takes no more. If nothing was written, it makes the folder. It returns false
-    /// if the folder can't be made, or if something can't be synced, except a directory whose file system has no sync of directories.
-    /// It also returns false if a file is open, which is removed then, or if a part was refused before.
+    /// if the folder can't be made, or if something can't be synced, except a directory whose file system has no sync of directories. It
+    /// also returns false if a file has another length once it is closed, if a file is open, which is removed then, or if a part was
+    /// refused before.
     pub fn finish(&mut self) -> bool
         ensures whole { IsTrue result → StandsBetween self.old }
         ensures ended { self.new ≡ Standing.Stopped }

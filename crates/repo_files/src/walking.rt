@@ -73,9 +73,9 @@ struct OpenedFile<F> {
 /// directory is taken that was put in its place after it was listed.
 ///
 /// The walk doesn't notice a directory that is exchanged, and exchanged back, while it is listed, or while an entry is opened. The kit
-/// opens a file by its path alone, and has no flags: the opening follows
-/// links, and waits for a writer of a pipe. If a file is replaced by a pipe between the look at it and its opening, the walk waits. If
-/// it is replaced by a device, the walk opens the device, and closes it.
+/// opens a file by its path alone, and has no flags: the opening follows links, and waits for a writer of a pipe. If a file is replaced
+/// by a pipe between the look at it and its opening, the walk waits. If it is replaced by a device, the walk opens the device, and
+/// closes it.
 #[derive(Drop)]
 pub struct FolderWalk<'a, R: Files> {
     rt: &'a R,
