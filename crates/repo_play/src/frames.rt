@@ -8,15 +8,15 @@ ghost use Rattle.repo_play.specs.Frames.{Differs, IsCarried, IsTooLarge};
 ghost use Rattle.repo_play.specs.declared.faults.CarryError.{CarryError};
 
 use crate::faults::CarryError;
-use repo_store::write_whole;
+use repo_store::{Channel, Ends, write_whole};
 use repo_wire::{Reply, Request, write_reply, write_request};
 use std::alloc::Global;
-use std::io::{Read, Write};
+use std::io::{Read, Write, sink};
 
 /// The greatest frame that is carried, in bytes: a connection takes as much before anybody reads from it.
 const FRAME_LIMIT: usize = 65_536;
 
-/// Reads some of the bytes that are to come, into a piece. It says how many.
+/// Reads some of the bytes that are to come, into a piece. It says how many. A read that is interrupted is made again.
 fn hear_some<R: Read>(coming: &[u8], piece: &mut [u8], reader: &mut R) -> Result<usize, CarryError>
     requires some { 0 < length coming.now }
     requires room { length coming.now ≤ length piece.old }
@@ -27,7 +27,15 @@ fn hear_some<R: Read>(coming: &[u8], piece: &mut [u8], reader: &mut R) -> Result
     ensures malformed { IsErrOf result CarryError.Malformed → Differs coming.now (R.remaining reader.old) (R.remaining reader.new) }
 {
     let room = &mut piece[..coming.len()];
-    match reader.read(room) {
+    let mut unused = sink();
+    let mut ends = Ends {
+        reader,
+        writer: &mut unused,
+    };
+    let heard = ends.hear(room);
+    // What the reader holds then is read off this use of it.
+    let _ = &*ends.reader;
+    match heard {
         Ok(0) => Err(CarryError::Read),
         Ok(count) => {
             if room[..count] == coming[..count] {
