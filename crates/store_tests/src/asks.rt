@@ -7,7 +7,7 @@ ghost use Rattle.repo_store.specs.StoreMachine.{IsAnswerable};
 use repo_locks::Ledger;
 use repo_name::{Bytes, Instance, Kind, LockRow, LockRows, Names, Text, Token, name_of};
 use repo_store::{MemShelf, Shelf, answer};
-use repo_wire::{Ask, Request, Say};
+use repo_wire::{Ask, Code, Request, Say};
 use std::alloc::{AllocError, Global};
 
 /// What is asked, of a store that keeps a config (one that an upgrade reads, where the ask is one), a live lock 1, a fresh number 2 and, where the ask wants it so, the
@@ -202,6 +202,20 @@ pub fn said<S: Shelf>(alloc: Global, shelf: &mut S, ask: Ask) -> Say
         },
     )
     .say
+}
+
+/// Whether a fault is told to an ask, if it has to be, and else what is said where nothing fails.
+pub fn is_told<S: Shelf>(
+    alloc: Global,
+    shelf: &mut S,
+    case: Case,
+    is_fault: bool,
+) -> Result<bool, AllocError> {
+    let say = said(alloc, shelf, ask_of(alloc, case)?);
+    if is_fault {
+        return Ok(say == Say::Refused(Code::Fault));
+    }
+    Ok(say == due(alloc, case)?)
 }
 
 /// What a call gives whose error tells of memory alone here.

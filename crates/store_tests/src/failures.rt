@@ -1,14 +1,14 @@
 //! Each ask while a failure is armed, and which call the armed one is.
 
-ghost use Rattle.std.specs.Prelude.{◌≡◌};
+ghost use Rattle.std.specs.Prelude.{◌≡◌, ◌≤◌};
 ghost use Rattle.repo_tree.specs.ConfigText.{IsTarget};
 
-use crate::asks::{CASES, Case, VERSION_1, VERSION_2, ask_of, ready, said};
+use crate::asks::{CASES, Case, VERSION_1, VERSION_2, is_told, ready};
+use crate::calls::{ROWS, outcome_of};
 use repo_chunk::Params;
 use repo_name::{Instance, Kind, name_of};
 use repo_store::{Fail, FaultShelf, InitError, MemShelf, Shelf, ShelfError, init};
 use repo_tree::Config;
-use repo_wire::{Code, Say};
 use std::alloc::Global;
 
 /// A ledger's bytes in hexadecimal, before an ask: the next number is 3, the number 2 is fresh, and 1 is live at the
@@ -53,7 +53,7 @@ pub fn due_pack(case: Case, is_made: bool) -> bool {
 }
 
 /// The config that has to be there after an ask, where its writing call made its change or not.
-fn due_config(case: Case, is_made: bool) -> &'static [u8] {
+pub fn due_config(case: Case, is_made: bool) -> &'static [u8] {
     match (case, is_made) {
         (Case::UpgradeOfVersion1, true) => VERSION_2,
         _ => case.config(),
@@ -95,15 +95,10 @@ impl Trial {
         }
     }
 
-    /// The ask is answered with a fault or not, as wanted, and the failures are as many.
+    /// The ask is answered with a fault, or as where nothing fails.
     fn asks(&mut self, case: Case, is_fault: bool) {
-        match ask_of(self.alloc, case) {
-            Ok(ask) => {
-                let say = said(self.alloc, &mut self.shelf, ask);
-                self.count(matches!(say, Say::Refused(Code::Fault)) == is_fault);
-            }
-            Err(_) => self.count(false),
-        }
+        let told = is_told(self.alloc, &mut self.shelf, case, is_fault);
+        self.count(told == Ok(true));
     }
 
     fn has_failed(&mut self, is_fault: bool) {
@@ -144,6 +139,21 @@ impl Trial {
         self.has_the_pack(due_pack(case, is_made));
         self.has_the_ledger(due_ledger(case, is_made));
         self.has_the_config(due_config(case, is_made));
+    }
+
+    /// What comes of an ask while its call of this number is armed.
+    fn meets_at(&mut self, case: Case, calls: &str, number: u64, applied: bool)
+        requires { 1 ≤ number }
+    {
+        let due = outcome_of(calls, number, applied);
+        self.prepare(case);
+        self.shelf.arm_at(number, applied);
+        self.asks(case, due.is_fault);
+        self.has_failed(due.is_fault);
+        self.shelf.disarm();
+        self.has_the_pack(due_pack(case, due.is_made));
+        self.has_the_ledger(due_ledger(case, due.is_made));
+        self.has_the_config(due_config(case, due.is_made));
     }
 
     /// A put of the pack gives this.
@@ -208,6 +218,18 @@ fn each_ask_meets_each_failure(rt: HostRuntime) {
     for case in CASES {
         for fail in [Fail::Read, Fail::Write(true), Fail::Write(false)] {
             trial.meets(case, fail);
+        }
+    }
+    assert_eq!(rt; trial.differ, 0);
+}
+
+#[test]
+fn the_call_of_each_number_fails_in_each_ask(rt: HostRuntime) {
+    let mut trial = Trial::new(rt.alloc());
+    for (case, calls, _) in ROWS {
+        for number in 1..=4u64 {
+            trial.meets_at(case, calls, number, true);
+            trial.meets_at(case, calls, number, false);
         }
     }
     assert_eq!(rt; trial.differ, 0);

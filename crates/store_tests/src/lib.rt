@@ -12,6 +12,8 @@ mod asks;
 #[cfg(test)]
 mod at_once;
 #[cfg(test)]
+mod calls;
+#[cfg(test)]
 mod connections;
 #[cfg(test)]
 mod failures;

@@ -1,7 +1,10 @@
 //! A shelf that remembers, around one that fails as it is told: which asks meet the failure, and when all is read again.
 
-use crate::asks::{CASES, Case, ask_of, due, ready, said};
-use crate::failures::{ISSUED, due_ledger, due_pack, keeps_ledger};
+ghost use Rattle.std.specs.Prelude.{◌≤◌};
+
+use crate::asks::{CASES, Case, is_told, ready, said};
+use crate::calls::{ROWS, outcome_of};
+use crate::failures::{ISSUED, due_config, due_ledger, due_pack, keeps_ledger};
 use repo_name::{Kind, name_of};
 use repo_store::{Fail, FaultShelf, Kept, MemShelf, Shelf, ShelfError};
 use repo_wire::{Ask, Code, Say};
@@ -27,24 +30,18 @@ fn lists_the_pack<S: Shelf>(shelf: &mut S, wanted: bool) -> bool {
     }
 }
 
+/// Whether the config is this one.
+fn keeps_config<S: Shelf>(shelf: &mut S, wanted: &[u8]) -> bool {
+    match shelf.config() {
+        Ok(Some(config)) => config.as_slice() == wanted,
+        _ => false,
+    }
+}
+
 /// Whether a shelf has what it has to have after an ask, where its writing call made its change or not.
 pub fn is_after<S: Shelf>(alloc: Global, shelf: &mut S, case: Case, is_made: bool) -> bool {
     keeps_ledger(alloc, shelf, due_ledger(case, is_made))
         && lists_the_pack(shelf, due_pack(case, is_made))
-}
-
-/// Whether a fault is told to an ask, where it has to be, and else what is said where nothing fails.
-fn is_told(
-    alloc: Global,
-    shelf: &mut Remembering,
-    case: Case,
-    is_fault: bool,
-) -> Result<bool, AllocError> {
-    let say = said(alloc, shelf, ask_of(alloc, case)?);
-    if is_fault {
-        return Ok(say == Say::Refused(Code::Fault));
-    }
-    Ok(say == due(alloc, case)?)
 }
 
 /// Whether a failure meets an ask: a reading one meets what is read, and the ledger and the names aren't where they are known.
@@ -177,6 +174,40 @@ impl Trial {
     }
 }
 
+impl Trial {
+    /// What comes of an ask while its call of this number is armed.
+    fn meets_at(&mut self, case: Case, calls: &str, number: u64, applied: bool)
+        requires { 1 ≤ number }
+    {
+        let due = outcome_of(calls, number, applied);
+        self.shelf.arm_at(number, applied);
+        self.asks(case, due.is_fault);
+        self.shelf.disarm();
+        self.is_after(case, due.is_made);
+        let is_so = keeps_config(&mut self.shelf, due_config(case, due.is_made));
+        self.count(is_so);
+    }
+
+    /// The same of a shelf that knows nothing any more.
+    fn meets_at_unknown(&mut self, case: Case, calls: &str, number: u64, applied: bool)
+        requires { 1 ≤ number }
+    {
+        self.prepare(case);
+        self.learns();
+        self.shelf.forget();
+        self.meets_at(case, calls, number, applied);
+    }
+
+    /// The same of a shelf that knows the ledger and the names of packs.
+    fn meets_at_known(&mut self, case: Case, calls: &str, number: u64, applied: bool)
+        requires { 1 ≤ number }
+    {
+        self.prepare(case);
+        self.learns();
+        self.meets_at(case, calls, number, applied);
+    }
+}
+
 /// The row of an unsure put: it is refused and made; then the names are read, and after that they are known.
 #[test]
 fn an_unsure_put_is_read_again(rt: HostRuntime) {
@@ -200,6 +231,30 @@ fn each_ask_meets_each_failure_where_nothing_is_known(rt: HostRuntime) {
     for case in CASES {
         for fail in [Fail::Read, Fail::Write(true), Fail::Write(false)] {
             trial.meets_unknown(case, fail);
+        }
+    }
+    assert_eq!(rt; trial.differ, 0);
+}
+
+#[test]
+fn the_call_of_each_number_fails_where_nothing_is_known(rt: HostRuntime) {
+    let mut trial = Trial::of(rt.alloc(), Case::Ticket);
+    for (case, calls, _) in ROWS {
+        for number in 1..=4u64 {
+            trial.meets_at_unknown(case, calls, number, true);
+            trial.meets_at_unknown(case, calls, number, false);
+        }
+    }
+    assert_eq!(rt; trial.differ, 0);
+}
+
+#[test]
+fn the_call_of_each_number_fails_where_all_is_known(rt: HostRuntime) {
+    let mut trial = Trial::of(rt.alloc(), Case::Ticket);
+    for (case, _, calls) in ROWS {
+        for number in 1..=4u64 {
+            trial.meets_at_known(case, calls, number, true);
+            trial.meets_at_known(case, calls, number, false);
         }
     }
     assert_eq!(rt; trial.differ, 0);
