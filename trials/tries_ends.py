@@ -166,12 +166,17 @@ def brought_from_another_store(yard, files):
         return name, entries(root)
 
 
+def packs_of(yard):
+    """The packs of the store, by their names."""
+    return sorted((it for it in yard.at("data").rglob("*") if it.is_file()), key=lambda it: it.name)
+
+
 @in_store
 def a_lost_pack_of_two_that_have_a_blob(yard):
     """Whichever of the two is lost, a prune ends with `missing pack` and changes nothing. Once the pack is back, all is whole, and the prune is done."""
     with Site(yard) as site:
         name, files = brought_from_another_store(yard, {"x": b"abc", "z": b"ghi"})
-        packs = sorted(it for it in yard.at("data").rglob("*") if it.is_file())
+        packs = packs_of(yard)
         same(len(packs), 2, "packs")
         for path in packs:
             good = path.read_bytes()
@@ -186,6 +191,38 @@ def a_lost_pack_of_two_that_have_a_blob(yard):
         same(is_clean(site.server.address)[0], "2", "snapshots")
         restores(site.server.address, site.name, yard.top / "to", entries(site.root))
         restores(site.server.address, name, yard.top / "to", files)
+
+
+def with_turned(good, blob):
+    """A pack in which the blob has another first byte."""
+    start = good.index(blob)
+    return good[:start] + bytes([good[start] ^ 1]) + good[start + 1:]
+
+
+@in_store
+def a_damaged_copy_of_two_of_a_blob_that_moves(yard):
+    """If both copies are damaged, a prune ends with the blob and changes nothing. If only the copy at the lesser place is, the prune is done by the other one."""
+    with Site(yard) as site:
+        own = site.only("data")
+        name, files = brought_from_another_store(yard, {"x": b"abc", "z": b"ghi"})
+        packs = packs_of(yard)
+        same(len(packs), 2, "packs")
+        kept, gone, wanted = (name, site.name, files) if packs[0] == own else (site.name, name, entries(site.root))
+        good = packs[1].read_bytes()
+        for path in packs:
+            path.write_bytes(with_turned(path.read_bytes(), b"abc"))
+        site.again()
+        same(told("forget", site.server.address, gone), f"0|forgotten {gone}\n|")
+        before = [entries(yard.at(folder)) for folder in OBJECTS]
+        site.ends(f"1||bad content\ncontent {name_of(b'abc')}\n", "prune")
+        same([entries(yard.at(folder)) for folder in OBJECTS], before, "objects")
+        packs[1].write_bytes(good)
+        site.again()
+        got = told(*site.words("check"))
+        holds(got.startswith(f"3|fault pack {packs[0].name} name\n") and packs[1].name not in got, got)
+        matches(told("prune", site.server.address), r"0\|pruned 2 \d+\n\|")
+        same(is_clean(site.server.address)[0], "1", "snapshots")
+        restores(site.server.address, kept, yard.top / "to", wanted)
 
 
 @in_store
