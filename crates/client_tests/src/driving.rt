@@ -2,8 +2,10 @@
 
 use repo_name::{Instance, Token};
 use repo_prune::Prune;
+use repo_restore::SnapshotList;
 use repo_session::{
-    Client, Connection, DriveError, Session, Who, ask, drive, drive_on, result_text, take_each,
+    Client, Connection, DriveError, Outcome, Session, Who, ask, drive, drive_on, result_text,
+    take_each,
 };
 use repo_wire::{Ask, Code, Reply, Request, Say};
 use std::alloc::{AllocError, Global};
@@ -12,8 +14,7 @@ use std::io;
 const INSTANCE: Instance = Instance([1; 16]);
 
 /// The reply to a ticket that is the first request: token 1.
-const TOKEN: &str =
-    "00000021810101010101010101010101010101010100000000000000010000000000000001";
+const TOKEN: &str = "00000021810101010101010101010101010101010100000000000000010000000000000001";
 
 /// A reply to a ninth request, which nobody asked.
 const NINTH: &str = "0000001982010101010101010101010101010101010000000000000009";
@@ -29,7 +30,11 @@ const TICKET: &str = "0000001901010101010101010101010101010101010000000000000001
 const PRUNED: &str =
     "2 busy 00000019010101010101010101010101010101010100000000000000010000002c0201010101010101010101010101010101000000000000000200000000000000010100000000000000050161";
 
-/// The same of one whose replies end before the second is whole.
+/// The same of a list of snapshots, whose lock is a shared one.
+const LISTED: &str =
+    "2 busy 00000019010101010101010101010101010101010100000000000000010000002c0201010101010101010101010101010101000000000000000200000000000000010000000000000000050161";
+
+/// The same of a prune whose replies end before the second is whole.
 const CUT_OFF: &str =
     "read failed running 00000019010101010101010101010101010101010100000000000000010000002c0201010101010101010101010101010101000000000000000200000000000000010100000000000000050161";
 
@@ -39,14 +44,14 @@ fn prune(alloc: Global) -> Option<Session<Prune>> {
     Some(Prune::new(alloc, who))
 }
 
-/// How many requests were answered, or why not more; how the prune stands; and what was written, in hexadecimal.
+/// How many requests were answered, or why not more; how the client ended; and what was written, in hexadecimal.
 fn shown(
     alloc: Global,
     driven: Result<u64, DriveError>,
-    prune: &Session<Prune>,
+    outcome: Option<&Outcome>,
     written: &[u8],
 ) -> Result<String, AllocError> {
-    let outcome = result_text(alloc, prune.outcome(), false)?;
+    let outcome = result_text(alloc, outcome, false)?;
     let written = hex::encode(alloc, written)?;
     match driven {
         Ok(answered) => format!(in alloc; "{answered} {outcome} {written}"),
@@ -69,10 +74,20 @@ fn driven(alloc: Global, replies: &[&str]) -> Option<String> {
     let (mut reader, mut written) = (replies.as_slice(), Vec::new(alloc));
     let mut prune = prune(alloc)?;
     let answered = drive(alloc, &mut prune, &mut reader, &mut written, &mut |_| true);
-    shown(alloc, answered, &prune, written.as_slice()).ok()
+    shown(alloc, answered, prune.outcome(), written.as_slice()).ok()
 }
 
-/// The same over a connection on which somebody else's ticket was asked for before.
+/// The same of a list of snapshots.
+fn listed(alloc: Global, replies: &[&str]) -> Option<String> {
+    let replies = bytes_of(alloc, replies)?;
+    let (mut reader, mut written) = (replies.as_slice(), Vec::new(alloc));
+    let who = Who::new(alloc, INSTANCE, "a", 5).ok()?;
+    let mut list = SnapshotList::new(alloc, who);
+    let answered = drive(alloc, &mut list, &mut reader, &mut written, &mut |_| true);
+    shown(alloc, answered, list.outcome(), written.as_slice()).ok()
+}
+
+/// The same of a prune, over a connection on which somebody else's ticket was asked for before.
 fn driven_on(alloc: Global, replies: &[&str]) -> Option<String> {
     let replies = bytes_of(alloc, replies)?;
     let (mut reader, mut written) = (replies.as_slice(), Vec::new(alloc));
@@ -90,7 +105,7 @@ fn driven_on(alloc: Global, replies: &[&str]) -> Option<String> {
         &mut written,
         &mut |_| true,
     );
-    shown(alloc, answered, &prune, written.as_slice()).ok()
+    shown(alloc, answered, prune.outcome(), written.as_slice()).ok()
 }
 
 /// A ticket that is the first request.
@@ -149,6 +164,12 @@ fn is_text(came: Option<String>, wanted: &str) -> bool {
 fn a_prune_is_driven_to_its_end(rt: HostRuntime) {
     let came = driven(rt.alloc(), &[TOKEN, NINTH, BUSY]);
     assert!(rt; is_text(came, PRUNED));
+}
+
+#[test]
+fn a_list_is_driven_to_its_end(rt: HostRuntime) {
+    let came = listed(rt.alloc(), &[TOKEN, NINTH, BUSY]);
+    assert!(rt; is_text(came, LISTED));
 }
 
 #[test]
