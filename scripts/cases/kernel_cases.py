@@ -55,6 +55,11 @@ def rows(count):
         yield name, HOSTS[name[0] % len(HOSTS)], int.from_bytes(name[1:5], "big") % SPAN, 1
 
 
+def kept_of(count):
+    """The name of the names of those of so many snapshots that the policy keeps."""
+    return name_of(b"".join(sorted(kept(list(rows(count)), LAST, DAILY))))
+
+
 def new_store(pack):
     store = Store()
     store.config = config_text(*RULE, pack)
@@ -101,9 +106,8 @@ def alone(script):
     told(script, "frames", name_of(last_of_frame(SIZE)))
     told(script, "random", name_of(random(SIZE)[-64:]))
     told(script, "chunk", name_of(lengths(random(SIZE))))
-    snapshots = list(rows(SIZE))
-    told(script, "rows", snapshots[-1][0])
-    told(script, "keep", name_of(b"".join(sorted(kept(snapshots, LAST, DAILY)))))
+    told(script, "rows", list(rows(SIZE))[-1][0])
+    told(script, "keep", kept_of(SIZE))
 
 
 def over_a_store(script):

@@ -20,9 +20,12 @@ sys.dont_write_bytecode = True
 import line_cases
 from checks import Check
 from command_cases import NO_NAMES, OPENED, row, says
+from event_cases import shows
 from job_cases import FILE_TREE, indexed, restore_of, tree_first
+from kernel_cases import kept_of
 from naming import name_of
-from played_cases import RESTORED, UPGRADED, WORKED
+from piece_cases import fed_file
+from played_cases import CARRIED, RESTORED, UPGRADED, WORKED
 from plays import prints_of
 from prune_cases import Objects, mixed, replies_to
 from prunes import Prune
@@ -151,6 +154,13 @@ def clients(script):
     script.fresh()
     script.many_files(17)
     script.finish(script.start_backup([]))
+    shows(script, "events of a world", [(["d"], None), (["x"], b"abc")])
+    script.heading("a policy for some snapshots")
+    script.line("kernel", "keep", 30)
+    script.prints("keep", 30, kept_of(30).hex())
+    script.heading("a backup that is fed item by item")
+    script.fresh()
+    script.pieces([("dir", "d"), *fed_file("x", b"ab", b"c"), ("close", None), *fed_file("y", bytes(range(200)) * 8), ("end", None)])
     script.heading("a list and a restore, to their ends at once")
     script.fresh()
     snapshot = laid(script, FILE_TREE, [("tree", FILE_TREE), ("content", b"abc")])
@@ -162,7 +172,7 @@ def scripts(script):
     """Scripts that are played, and one whose messages are carried."""
     script.plays("a script of each event", EVENTS)
     script.plays("a script of all jobs", ENTRIES + ALL_JOBS)
-    for heading, text, _ in [*WORKED[1:3], UPGRADED]:
+    for heading, text, _ in [*CARRIED, *WORKED[1:], UPGRADED]:
         script.plays(heading, text)
     for place, text in enumerate(LINES, 1):
         script.plays(f"lines of each sort, {place}", text)

@@ -20,9 +20,13 @@ fn reason(error: FeedError) -> u64 {
     }
 }
 
-/// Feeds an item, and tells how many bytes of it were taken, or why it wasn't.
+/// Feeds an item, and prints how many bytes of it were taken, or why it wasn't. If there was no memory for it, it is fed once more.
 fn tell_fed(backup: &mut PieceBackup, item: Item, told: &mut Told) -> Result<(), ScriptError> {
-    match backup.feed(item) {
+    let mut fed = backup.feed(item);
+    if fed == Err(FeedError::Memory) {
+        fed = backup.feed(item);
+    }
+    match fed {
         Ok(count) => told.number("took", count as u64)?,
         Err(error) => told.number("refused", reason(error))?,
     }

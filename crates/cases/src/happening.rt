@@ -37,7 +37,8 @@ fn events_of(
     Ok(events)
 }
 
-/// A client starts, and so many messages are delivered, all of it at once.
+/// A client starts, and so many messages are delivered, all of it at once. If there was no memory for one of these events, it happens once
+/// more, with those behind it.
 fn happen(
     alloc: Global,
     world: &mut World<MemShelf>,
@@ -46,7 +47,11 @@ fn happen(
     count: usize,
 ) -> Result<(), ScriptError> {
     let events = events_of(alloc, job, first, count)?;
-    match world.run(events.as_slice()) {
+    let Err(stopped) = world.run(events.as_slice()) else {
+        return Ok(());
+    };
+    let rest = events.as_slice().get(stopped.applied..);
+    match world.run(rest.unwrap_or(&[])) {
         Ok(()) => Ok(()),
         Err(_) => Err(ScriptError::Memory),
     }

@@ -4,8 +4,8 @@
 use repo_dial::{Once, Recorder, Tape, Went};
 use repo_name::{Instance, Token};
 use repo_prog::{
-    Caller, Console, FramesError, Route, Status, frames, locks_command,
-    refresh_command, snapshots_command,
+    Caller, Console, FramesError, Route, Status, frames, locks_command, refresh_command,
+    snapshots_command,
 };
 use std::alloc::{AllocError, Global};
 use std::io;

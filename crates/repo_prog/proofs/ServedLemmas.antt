@@ -61,6 +61,7 @@ module _ {L C : Type 0} (Accepts : L → Bool → Option C → L → Type 0) (Le
   } where
     turn : Turn C
     turn = record { refused = refused; visit = visit }
+
     P : Turn C → Type 0
     P turn = (turn.refused ≡ false) × IsOk (ending turn.visit)
 
