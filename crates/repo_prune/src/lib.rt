@@ -22,8 +22,10 @@
 //! are needed and that none before it lists, packs in the order of their names, 20,000 blobs or more and without its
 //! last pack fewer, or nothing more waits to be listed; if an index names a pack that isn't listed, it ends `Missing` of
 //! the least such pack, before it puts or deletes anything; it reads each snapshot and each index once, no pack as a whole,
-//! and of a blob only the place of its used copy, if it is a tree that a listed snapshot needs and that wasn't
-//! received, or is the next that moves, where those that wait for its pack leave room in it; it reads nothing after its
+//! and of a blob the place of its used copy, if it is a tree that a listed snapshot needs and that wasn't
+//! received, or is the next that moves, if those that wait for its pack leave room in it. If a blob that moves comes bad,
+//! the prune asks for the blob's other copies, in the order of their places, before it asks for anything else; it ends
+//! with the bad blob only if each copy came bad. It reads nothing after its
 //! first delete, and ends `Pruned` once each old index and each pack that no new index lists is deleted; alone with a
 //! store that only appends it prunes no pack. An upgrade asks for one thing, once, where the config is of version 1,
 //! and is `Upgraded` only where the config is of version 2. Not promised: that a store answers.

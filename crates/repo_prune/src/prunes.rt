@@ -49,7 +49,7 @@ pub struct Onward {
 ///
 /// `Missing` of a pack is the least one that an index names and that isn't listed: nothing was put or deleted then. `Missing`
 /// of a blob is one that a snapshot needs and no index gives, and `BadObject` or `Version` is of what doesn't read: nothing
-/// was deleted then.
+/// was deleted then. A blob that moves is bad if each of its copies is.
 ///
 /// It has what it listed and read of the store, how far it is, and how large new packs are to be.
 #[derive(Drop)]
