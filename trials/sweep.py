@@ -192,6 +192,17 @@ WORLDS = {
     ],
 }
 
+# What a backup is fed in one of them: an item before it wants any, and a name out of order, among others.
+REFUSED_ITEMS = ["end", "file x", "bytes 61", "bytes 6263", "close", "file a", "end"]
+
+
+def behind_ends(*steps):
+    """The lines that feed these items, and behind each end these steps."""
+    for item in REFUSED_ITEMS:
+        yield f"feed {{0}} {item}"
+        yield from steps * (item == "end")
+
+
 # Those that were worked out by hand, line by line, with the script and what it prints.
 BY_HAND = {
     "two hosts with equal files": (WORKED[0], [backup("a", 1, "file x 616263"), backup("b", 1, "file x 616263")]),
@@ -209,6 +220,11 @@ BY_HAND = {
         prune_until("delete-pack", "unlock {1}"),
         runs(backup("a", 2, "file x 616263"), "finish {0}", "late 2"),
         restore(3),
+    ]),
+    "a backup that is fed beside items that it refuses": (WORKED[6], [
+        Client(["start pieces a 5"], ("file x 616263", "start backup a 5"), 1, runs=tuple(behind_ends("finish {0}")),
+               steps=tuple(behind_ends(*["step {0}"] * 8))),
+        restore(0),
     ]),
     "an old snapshot that comes after an upgrade": (UPGRADED, [
         old(backup("a", 1, "file x 616263")),

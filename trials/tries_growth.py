@@ -47,24 +47,24 @@ def counts(library, mark):
 
 @trial(is_early=True)
 def cases_whose_memory_is_refused():
-    """Each case of a store twice in a row: whichever request is refused, at most one of the two differs, and says why."""
+    """Each case of a store twice in a row: whichever request is refused, at most one of the two differs, and reports that there was no memory."""
     if not refused.CASES.is_file():
         raise Skipped("there is no program of cases: `rt ci` leaves one")
     with Yard() as yard:
         library, mark = refuser(yard), yard.top / "refused"
-        total = sum(case.requests(library, mark, numbers(10, 29)) for case in refused.tried_cases(refused.chosen()))
-        holds(total > 80, f"only {total} requests were refused")
+        total = sum(case.requests(library, mark, numbers()) for case in refused.tried_cases(refused.chosen()))
+        holds(total > 200, f"only {total} requests were refused")
 
 
 @trial(is_early=True)
 def runs_whose_memory_is_refused():
-    """Each run of the cases: whichever request is refused, it ends as it ends else, or says why."""
+    """Each run of the cases: whichever request is refused, it ends as it ends else, or reports that there was no memory."""
     with Yard() as yard:
         library, mark = refuser(yard), yard.top / "refused"
         counts(library, mark)
         runner = refused.Runner(OPTIONS.program, new_folder())
-        total = sum(run.requests(library, mark, numbers(10, 29), runner) for run in refused.tried_runs(refused.chosen()))
-        holds(total > 500, f"only {total} requests were refused")
+        total = sum(run.requests(library, mark, numbers(), runner) for run in refused.tried_runs(refused.chosen()))
+        holds(total > 3000, f"only {total} requests were refused")
 
 
 # How a command is told as done; where it isn't, it ends with status 1, and no signal ends it.
@@ -73,8 +73,13 @@ DONE = {"backup": r"0\|stored [0-9a-f]{64} \d+ \d+\n\|", "restore": r"0\|complet
 
 
 def is_an_end(job, got):
-    return re.fullmatch(DONE[job], got) or re.match(r"1\|", got)
+    """Whether a command is done, or reports that there was no memory, in itself or in the server."""
+    return re.fullmatch(DONE[job], got) or re.fullmatch(r"1\|[^|]*\|(.*\n)*(out of memory|refused 11)\n", got)
 
+
+def is_cut_off(got):
+    """Whether the server ended the connection, since it had no memory for it."""
+    return got in ("1||read failed\n", "1||write failed\n", "1||not reached\n")
 
 
 @trial(is_long=True, is_early=True)
@@ -127,7 +132,7 @@ def a_server_whose_memory_is_refused():
                 continue
             with server:
                 got = told("backup", server.address, "h", root)
-                holds(is_an_end("backup", got), f"request {at} of the server refused: {got}")
+                holds(is_an_end("backup", got) or is_cut_off(got), f"request {at} of the server refused: {got}")
             if not mark.is_symlink() or count > (10_000 if OPTIONS.is_long else 60):
                 break
         with Server(yard.root, connections=9) as server:

@@ -152,6 +152,25 @@ def units_are_whole():
             holds(other in names, f"{unit.name}: there is no {other}")
 
 
+# What some units have to say, each for a reason that its own lines give.
+LINES = {
+    "jibrekt-tunnel.conf": ("ClientAliveInterval 30", "ClientAliveCountMax 4"),
+    "jibrekt-serve.service": ("StartLimitIntervalSec=0", "RestartSec=15", r"RequiresMountsFor=\S+"),
+    "jibrekt-prune.service": (r"ExecStart=\S*vault check .*",),
+}
+
+
+@trial
+def units_say_what_they_promise():
+    """Clients that vanished are ended, a server is started until its disk is there, and a store is checked before it is pruned."""
+    for name, lines in LINES.items():
+        text = (UNITS / name).read_text()
+        for line in lines:
+            holds(re.search(rf"^\s*{line}$", text, re.M), f"{name} has no line {line}")
+    commands = re.findall(r"^Exec\w+=\S*vault (\w+)", (UNITS / "jibrekt-prune.service").read_text(), re.M)
+    holds(commands.index("check") < commands.index("prune"), f"the commands of a prune are {commands}")
+
+
 @trial
 def systemd_takes_the_units():
     needs("systemd-analyze")

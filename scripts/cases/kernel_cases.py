@@ -83,6 +83,12 @@ def entries(count, step):
             yield [folder, f"{number:08}"], b"%064d" % number
 
 
+def backup_of(size):
+    """The name of the snapshot of one file of so many bytes."""
+    stored, _ = ended(new_store(PACK), Backup([(["random"], random(size))]))
+    return stored.name
+
+
 def half_forgotten(count):
     """A store with a backup of every other one of so many files, after one of all was forgotten, and the snapshot's name."""
     store = new_store(max(LEAST_PACK, count * FILE // PACKS))

@@ -1,8 +1,7 @@
 #!/usr/bin/env python3
 """Runs some cases with their first request for memory refused, then with the second, and so on, until none is left.
 
-A run of the program `vault` ends then as it ends else; or it tells of want of memory, or of a writer or a sink that could not take more;
-or a text on standard error is cut short. A script that is played prints what the reference prints where the store lacks memory for one of
+A run of the program `vault` ends then as it ends else; or it reports want of memory; or a text on standard error is cut short. A script that is played prints what the reference prints where the store lacks memory for one of
 its requests; or it ends for want of memory behind some of its lines. What stands in a case of a store alone is a case of the program
 `cases`, twice in a row: whichever is refused, at most one of the two differs, and says why. Where a line of the case itself gets no memory
 that program ends with that text. The programs are those that `rt run` builds in crates/vault and crates/cases.
@@ -22,10 +21,10 @@ from checks import Check
 from command_cases import NO_NAMES, OPENED, row, says
 from event_cases import shows
 from job_cases import FILE_TREE, indexed, restore_of, tree_first
-from kernel_cases import kept_of
+from kernel_cases import backup_of, kept_of
 from naming import name_of
 from piece_cases import fed_file
-from played_cases import CARRIED, RESTORED, UPGRADED, WORKED
+from played_cases import CARRIED, ENDED, RESTORED, WORKED
 from plays import prints_of
 from prune_cases import Objects, mixed, replies_to
 from prunes import Prune
@@ -37,9 +36,7 @@ from world_cases import laid
 
 CRATES = Path(__file__).resolve().parents[2] / "crates"
 CASES, VAULT = CRATES / "cases/out/cases", CRATES / "vault/out/vault"
-CAUSES = ("out of memory", "refused 11", "write failed", "stopped")
-# What is told besides where the words, an address, the caller or an entry of a folder get no memory.
-BEFORE = ("bad argument", "not reached", "read failed")
+CAUSES = ("out of memory", "refused 11")
 # The small library that refuses a request.
 REFUSER = Path(__file__).resolve().parents[1] / "refuse.c"
 
@@ -158,9 +155,12 @@ def clients(script):
     script.heading("a policy for some snapshots")
     script.line("kernel", "keep", 30)
     script.prints("keep", 30, kept_of(30).hex())
-    script.heading("a backup that is fed item by item")
+    script.heading("a backup that is fed item by item, and the rest of a file as a list")
     script.fresh()
-    script.pieces([("dir", "d"), *fed_file("x", b"ab", b"c"), ("close", None), *fed_file("y", bytes(range(200)) * 8), ("end", None)])
+    script.pieces([("dir", "d"), *fed_file("x", b"ab", b"c"), ("close", None), ("file", "y"), ("rest", bytes(range(200)) * 8), ("end", None)])
+    script.heading("a backup to its end, by itself")
+    script.line("kernel", "backup", 300)
+    script.prints("backup", 300, backup_of(300).hex())
     script.heading("a list and a restore, to their ends at once")
     script.fresh()
     snapshot = laid(script, FILE_TREE, [("tree", FILE_TREE), ("content", b"abc")])
@@ -172,7 +172,7 @@ def scripts(script):
     """Scripts that are played, and one whose messages are carried."""
     script.plays("a script of each event", EVENTS)
     script.plays("a script of all jobs", ENTRIES + ALL_JOBS)
-    for heading, text, _ in [*CARRIED, *WORKED[1:], UPGRADED]:
+    for heading, text, _ in [*CARRIED, *WORKED[1:], *ENDED]:
         script.plays(heading, text)
     for place, text in enumerate(LINES, 1):
         script.plays(f"lines of each sort, {place}", text)
@@ -234,7 +234,7 @@ class TriedRun(Tried):
     def fault(self, came):
         """What is wrong with a run in which a request was refused."""
         wanted = self.run.wanted
-        is_told = came.faults.endswith(tuple(cause + "\n" for cause in CAUSES + BEFORE)) or came.faults.startswith("unreadable p")
+        is_told = came.faults.endswith(tuple(cause + "\n" for cause in CAUSES))
         if (came.status, came.sent, came.restored, came.output) == (wanted.status, wanted.sent, wanted.restored, wanted.output):
             is_so = is_told or wanted.faults.startswith(came.faults)
         else:

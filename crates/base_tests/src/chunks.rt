@@ -1,7 +1,7 @@
 //! Where streams are cut, against values that other programs computed.
 
 use crate::trials::Trial;
-use repo_chunk::{Params, remainder, report_cuts};
+use repo_chunk::{ParamError, Params, remainder, report_cuts};
 use std::alloc::{AllocError, Global};
 
 // These lines of Python gave the lengths, as cuts(64, 256, 6, stream(5000)):
@@ -156,6 +156,19 @@ impl Trial {
         }
     }
 
+    /// No rule has these numbers, for this reason.
+    fn refuses(&mut self, rule: (u64, u64, u64), reason: ParamError) {
+        self.count(Params::new(rule.0, rule.1, rule.2).err() == Some(reason));
+    }
+
+    /// The remainder of 62 zeros and these two bytes.
+    fn leaves_of_two(&mut self, last: [u8; 2], wanted: u64) {
+        let mut bytes = [0u8; 64];
+        bytes[62] = last[0];
+        bytes[63] = last[1];
+        self.count(remainder(&bytes) == wanted);
+    }
+
     /// The remainder of 64 bytes, zeros but for this one at a place.
     fn leaves(&mut self, place: usize, byte: u8, wanted: u64) {
         let mut bytes = [0u8; 64];
@@ -174,6 +187,7 @@ fn streams_are_cut_as_by_other_programs(rt: HostRuntime) {
     trial.leaves(57, 0x20, 0x1D_A335_8B4D_C173);
     trial.leaves(57, 0x40, 0x06_E55E_9DD6_4395);
     trial.leaves(63, 0x01, 0x01);
+    trial.leaves_of_two([0x01, 0x40], 0x140);
     // The other lengths are those of restic's chunker library with this polynomial.
     trial.cuts(
         (524_288, 8_388_608, 20),
@@ -202,6 +216,16 @@ fn short_files_are_cut_as_by_hand(rt: HostRuntime) {
         trial.cuts_by((64, 128, 6), CUT_AT_65, size, &[65]);
         trial.cuts_by((64, 66, 6), CUT_AT_66, size, &[66, 1]);
     }
+    trial.end(&rt);
+}
+
+#[test]
+fn numbers_make_a_rule_within_their_limits(rt: HostRuntime) {
+    let mut trial = Trial::new(rt.alloc());
+    trial.refuses((63, 62, 0), ParamError::Least);
+    trial.refuses((64, 63, 0), ParamError::Greatest);
+    trial.refuses((64, 64, 33), ParamError::Bits);
+    trial.cuts_by((64, 64, 32), "", 1, &[]);
     trial.end(&rt);
 }
 

@@ -101,14 +101,14 @@ fn told_over(alloc: Global, token: Option<Token>, replies: &str) -> Option<Strin
     asked(alloc, token, replies.as_slice()).ok()
 }
 
-/// Whether a command told this, though not all that went may be known; or it failed and told why. Where the test's own texts
-/// get no memory, nothing is run.
+/// Whether a command printed this, though not all that went may be known; or it reported that there was no memory. If the test's own
+/// texts get no memory, nothing is run.
 fn is_told(told: Option<String>, wanted: &str) -> bool {
     let Some(told) = told else {
         return true;
     };
     let told = told.as_str();
-    let is_failed = told.starts_with("1||") && !told.starts_with("1|||");
+    let is_failed = told.starts_with("1||out of memory\n|");
     let is_lost = told.strip_suffix("lost") == wanted.strip_suffix("sh");
     told == wanted || is_failed || is_lost
 }

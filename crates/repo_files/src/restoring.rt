@@ -1,14 +1,15 @@
 //! Writes what a restore gives out into a folder.
 
-ghost use Rattle.std.specs.Prelude.{◌≡◌, IfOk, IsTrue, IsFalse};
+ghost use Rattle.std.specs.Prelude.{◌≡◌, ◌⊎◌, IfOk, IsTrue, IsFalse, OnOk};
 ghost use Rattle.repo_files.specs.Restoring.{standing_of, StandsBetween, TakesEmission};
 ghost use Rattle.repo_files.specs.declared.phases.Standing.{Standing};
+ghost use Rattle.repo_session.specs.declared.driving.DriveError.{DriveError};
 
 use crate::drafts::{fill, remove, settle};
 use crate::grounds::Ground;
 use crate::phases::Phase;
 use crate::safe_targets::is_safe_target;
-use repo_session::Emission;
+use repo_session::{DriveError, Emission};
 use std::alloc::{AllocError, AllocGlobal};
 use std::fs::Files;
 use std::io::ErrorKind;
@@ -41,6 +42,8 @@ use std::{io, mem};
 pub struct Restorer<R: Files> {
     ground: Ground<R>,
     phase: Phase<R::File>,
+    /// There was no memory for the part that was refused.
+    lacks_memory: bool,
 }
 
 /// Why a folder can't be restored into.
@@ -79,6 +82,7 @@ impl<R: Files + AllocGlobal + Clone + Drop> Restorer<R> {
             Ok(Some(ground)) => Ok(Restorer {
                 ground,
                 phase: Phase::Untouched,
+                lacks_memory: false,
             }),
             Ok(None) => Err(RestorerError::NotEmpty),
             Err(error) if error.kind() == ErrorKind::OutOfMemory => Err(RestorerError::Memory),
@@ -99,7 +103,30 @@ impl<R: Files + AllocGlobal + Clone + Drop> Restorer<R> {
                 self.phase = next;
                 true
             }
-            Err(_) => false,
+            Err(error) => {
+                self.note(&error);
+                false
+            }
+        }
+    }
+
+    /// Notes whether an error is one for memory.
+    fn note(&mut self, error: &io::Error)
+        ensures { self.new ≡ self.old }
+    {
+        if error.kind() == ErrorKind::OutOfMemory {
+            self.lacks_memory = true;
+        }
+    }
+
+    /// Why a part was refused, or the end was: `Memory` if there was no memory for it, else `Sink`.
+    pub fn refusal(&self) -> DriveError
+        ensures { (result ≡ DriveError.Memory) ⊎ (result ≡ DriveError.Sink) }
+    {
+        if self.lacks_memory {
+            DriveError::Memory
+        } else {
+            DriveError::Sink
         }
     }
 
@@ -111,15 +138,35 @@ impl<R: Files + AllocGlobal + Clone + Drop> Restorer<R> {
         ensures whole { IsTrue result → StandsBetween self.old }
         ensures ended { self.new ≡ Standing.Stopped }
     {
-        match mem::replace(&mut self.phase, Phase::Stopped) {
-            Phase::Untouched => self.ground.open().is_ok() && self.ground.sync().is_ok(),
-            Phase::Between => self.ground.sync().is_ok(),
-            Phase::InFile(draft) => {
-                remove(&self.ground.rt, draft);
+        let phase = mem::replace(&mut self.phase, Phase::Stopped);
+        match end(&mut self.ground, phase) {
+            Ok(()) => true,
+            Err(error) => {
+                self.note(&error);
                 false
             }
-            Phase::Stopped => false,
         }
+    }
+}
+
+/// Syncs all that was written. The folder is made if nothing was. A file that is open is removed, and that is an error.
+fn end<R: Files + AllocGlobal + Clone + Drop>(
+    ground: &mut Ground<R>,
+    phase: Phase<R::File>,
+) -> io::Result<()>
+    ensures { OnOk result (StandsBetween (standing_of phase)) }
+{
+    match phase {
+        Phase::Untouched => {
+            ground.open()?;
+            ground.sync()
+        }
+        Phase::Between => ground.sync(),
+        Phase::InFile(draft) => {
+            remove(&ground.rt, draft);
+            Err(io::Error::from(ErrorKind::InvalidInput))
+        }
+        Phase::Stopped => Err(io::Error::from(ErrorKind::InvalidInput)),
     }
 }
 
@@ -161,7 +208,11 @@ fn step<R: Files + AllocGlobal + Clone + Drop>(
 /// A file that is open when the restorer goes is removed, as far as that can be done.
 impl<R: Files + Drop> Drop for Restorer<R> {
     fn drop(self) {
-        let Restorer { ground, phase } = self;
+        let Restorer {
+            ground,
+            phase,
+            lacks_memory: _,
+        } = self;
         if let Phase::InFile(draft) = phase {
             remove(&ground.rt, draft);
         }

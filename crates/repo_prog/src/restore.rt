@@ -1,7 +1,9 @@
 //! `vault restore`.
 
 ghost use Rattle.std.specs.Fn.{CalledAt};
-ghost use Rattle.std.specs.Prelude.{◌≡◌, true};
+ghost use Rattle.std.specs.Prelude.{◌≡◌, ◌≢◌, Ok, tt};
+ghost use Rattle.repo_dial.specs.declared.again.TryError.{TryError};
+ghost use Rattle.repo_session.specs.declared.driving.DriveError.{DriveError};
 ghost use Rattle.repo_prog.specs.Jobs.{RestoreCame, RestoreObeyed};
 ghost use Rattle.repo_prog.specs.declared.status.Status.{Status};
 ghost use Rattle.repo_prog.specs.Shown.{ShowsRestored, TellsRestored};
@@ -28,22 +30,22 @@ pub struct Restoring<'a> {
 }
 
 /// Writes the line of a restore that is complete, once what it gave out is finished, or tells how else the job ended.
-fn show_restored<E: FnOnce() -> bool, O: Write, F: Write>(
+fn show_restored<E: FnOnce() -> Result<(), DriveError>, O: Write, F: Write>(
     alloc: Global,
     outcome: &Outcome,
     finish: E,
     console: &mut Console<O, F>,
 ) -> Status
     requires { E.pre finish }
-    ensures finished { result ≡ Status.Done → E.post finish true }
+    ensures finished { result ≡ Status.Done → E.post finish (Ok tt) }
     ensures shows { ShowsRestored outcome.now result (O.contents console.old.output) (O.contents console.new.output) }
     ensures silent { result ≡ Status.Done → console.new.faults ≡ console.old.faults }
 {
     let Outcome::Complete { entries } = outcome else {
         return unfinished(alloc, Some(outcome), &mut console.faults);
     };
-    if !finish() {
-        return failed(&mut console.faults, &DriveError::Sink);
+    if let Err(error) = finish() {
+        return failed(&mut console.faults, &error);
     }
     show_made(complete_line(alloc, *entries), console)
 }
@@ -79,6 +81,17 @@ fn restored_by<D: Dial, S: FnMut(&Emission) -> bool>(
 {
     let mut sink = sink;
     restored(alloc, caller, name, &mut sink, route)
+}
+
+/// Why a restore ended: if the restorer refused a part, its reason.
+fn cause_of(error: TryError, refusal: DriveError) -> TryError
+    ensures refused { error ≡ TryError.Drive DriveError.Sink → result ≡ TryError.Drive refusal }
+    ensures other { error ≢ TryError.Drive DriveError.Sink → result ≡ error }
+{
+    match error {
+        TryError::Drive(DriveError::Sink) => TryError::Drive(refusal),
+        other => other,
+    }
 }
 
 /// Tells why a folder can't be restored into.
@@ -119,8 +132,17 @@ pub fn restore_command<T: Files + AllocGlobal + Clone + Drop, D: Dial, O: Write,
     let sink = |emission: &Emission| restorer.write(emission);
     let outcome = match restored_by(rt.alloc(), caller, name, sink, route) {
         Ok(outcome) => outcome,
-        Err(error) => return failed(&mut console.faults, &error),
+        Err(error) => {
+            let cause = cause_of(error, restorer.refusal());
+            return failed(&mut console.faults, &cause);
+        }
     };
-    let finish = || restorer.finish();
+    let finish = || {
+        if restorer.finish() {
+            Ok(())
+        } else {
+            Err(restorer.refusal())
+        }
+    };
     show_restored(rt.alloc(), &outcome, finish, console)
 }
