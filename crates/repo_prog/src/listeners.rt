@@ -54,7 +54,7 @@ fn take<C: Clock, L: OpenListener, F: Write>(
     ensures silent { result.refused ≡ false → faults.new ≡ faults.old }
 {
     let mut refused = false;
-    for _ in 0..u64::MAX {
+    for tried in 0..u64::MAX {
         if let Ok((stream, _)) = listener.accept() {
             return Arrival {
                 ends: Some(stream),

@@ -1,7 +1,7 @@
 //! `vault restore`.
 
 ghost use Rattle.std.specs.Fn.{CalledAt};
-ghost use Rattle.std.specs.Prelude.{◌≡◌, ◌≢◌, Ok, tt};
+ghost use Rattle.std.specs.Prelude.{◌≡◌, ◌≢◌, Ok};
 ghost use Rattle.repo_dial.specs.declared.again.TryError.{TryError};
 ghost use Rattle.repo_session.specs.declared.driving.DriveError.{DriveError};
 ghost use Rattle.repo_prog.specs.Jobs.{RestoreCame, RestoreObeyed};
