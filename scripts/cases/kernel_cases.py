@@ -3,9 +3,9 @@
 from checks import Check
 from chunks import chunks
 from frames import REQUESTS, Message, Stream, u64
-from jobs import Backup, Client, Forget, Restore, kept
+from jobs import Backup, Client, Forget, List, Restore, kept
 from naming import name_of
-from prunes import Prune
+from prunes import Prune, Upgrade
 from store import Store
 from texts import config_text, pack_of
 
@@ -98,10 +98,20 @@ def half_forgotten(count):
     return store, second.name
 
 
-def told(script, word, digest):
+# The jobs at a store of which half is forgotten, by their words.
+AT_HALF = {"prune": Prune, "check": Check, "list": List, "upgrade": Upgrade}
+
+
+def done_at_half(count, job):
+    """The name of the words for how a job at such a store ended."""
+    outcome, _ = ended(half_forgotten(count)[0], job())
+    return name_of(outcome.text.encode())
+
+
+def told(script, word, digest, size=SIZE):
     """A kernel's line, and what it prints."""
-    script.line("kernel", word, SIZE)
-    script.prints(word, SIZE, digest.hex())
+    script.line("kernel", word, size)
+    script.prints(word, size, digest.hex())
 
 
 def alone(script):
@@ -125,9 +135,8 @@ def over_a_store(script):
     told(script, "backup", stored.name)
     told(script, "restore", name_of(last))
     told(script, "forget", half_forgotten(SIZE)[1])
-    for word, job in (("prune", Prune()), ("check", Check())):
-        outcome, _ = ended(half_forgotten(SIZE)[0], job)
-        told(script, word, name_of(outcome.text.encode()))
+    for word, job in AT_HALF.items():
+        told(script, word, done_at_half(SIZE, job))
 
 
 ALL = [alone, over_a_store]

@@ -21,7 +21,8 @@ from checks import Check
 from command_cases import NO_NAMES, OPENED, row, says
 from event_cases import shows
 from job_cases import FILE_TREE, indexed, restore_of, tree_first
-from kernel_cases import backup_of, kept_of
+from kernel_cases import AT_HALF, backup_of, done_at_half, half_forgotten, kept_of
+from kernel_cases import told as kernel
 from naming import name_of
 from piece_cases import fed_file
 from played_cases import CARRIED, ENDED, RESTORED, WORKED
@@ -37,6 +38,8 @@ from world_cases import laid
 CRATES = Path(__file__).resolve().parents[2] / "crates"
 CASES, VAULT = CRATES / "cases/out/cases", CRATES / "vault/out/vault"
 CAUSES = ("out of memory", "refused 11")
+# The files of a store of which half is forgotten.
+FILES = 6
 # The small library that refuses a request.
 REFUSER = Path(__file__).resolve().parents[1] / "refuse.c"
 
@@ -153,14 +156,20 @@ def clients(script):
     script.finish(script.start_backup([]))
     shows(script, "events of a world", [(["d"], None), (["x"], b"abc")])
     script.heading("a policy for some snapshots")
-    script.line("kernel", "keep", 30)
-    script.prints("keep", 30, kept_of(30).hex())
+    kernel(script, "keep", kept_of(30), 30)
     script.heading("a backup that is fed item by item, and the rest of a file as a list")
     script.fresh()
     script.pieces([("dir", "d"), *fed_file("x", b"ab", b"c"), ("close", None), ("file", "y"), ("rest", bytes(range(200)) * 8), ("end", None)])
     script.heading("a backup to its end, by itself")
-    script.line("kernel", "backup", 300)
-    script.prints("backup", 300, backup_of(300).hex())
+    kernel(script, "backup", backup_of(300), 300)
+    script.heading("a forget to its end, by itself")
+    kernel(script, "forget", half_forgotten(FILES)[1], FILES)
+    for word, job in AT_HALF.items():
+        script.heading(f"a {word} to its end, by itself")
+        kernel(script, word, done_at_half(FILES, job), FILES)
+    script.heading("a ledger with as many fresh numbers as it keeps")
+    script.fresh()
+    script.ask(*[("ticket",)] * 1_025, ("lock", 1, False, 5, "a"), ("lock", 2, False, 5, "a"))
     script.heading("a list and a restore, to their ends at once")
     script.fresh()
     snapshot = laid(script, FILE_TREE, [("tree", FILE_TREE), ("content", b"abc")])
@@ -174,6 +183,8 @@ def scripts(script):
     script.plays("a script of all jobs", ENTRIES + ALL_JOBS)
     for heading, text, _ in [*CARRIED, *WORKED[1:], *ENDED]:
         script.plays(heading, text)
+    for heading, text, _ in WORKED[:-1]:
+        script.plays(f"{heading}; and all requests come once more", text.replace("report\n", "replay\nreport\n"))
     for place, text in enumerate(LINES, 1):
         script.plays(f"lines of each sort, {place}", text)
     script.plays("a script that comes byte by byte", "start list\nfinish 0\nreport\n\nfile x 6", slow=True)

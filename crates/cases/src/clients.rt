@@ -42,14 +42,19 @@ pub fn stored_name(outcome: Option<&Outcome>) -> Option<Name> {
     }
 }
 
-/// Brings a client to its end.
+/// Brings a client to its end. If there was no memory for a reply, the reply to the same request is taken once more.
 fn ended<C: Client>(
     alloc: Global,
     client: &mut C,
     shelf: &mut MemShelf,
 ) -> Result<JobEnd, ScriptError> {
     let mut given = Vec::new(alloc);
-    if lockstep(alloc, client, shelf, &mut given).is_err() {
+    let mut ran = lockstep(alloc, client, shelf, &mut given);
+    // What was given out last may be lost: so only a client that gave nothing out goes on.
+    if ran.is_err() && client.emitted().is_empty() {
+        ran = lockstep(alloc, client, shelf, &mut given);
+    }
+    if ran.is_err() {
         return Err(ScriptError::Memory);
     }
     Ok(JobEnd {

@@ -4,7 +4,7 @@ use crate::lines::{ScriptError, bytes, cut, number};
 use crate::told::Told;
 use repo_backup::{FeedError, Item, ItemsError, PieceBackup, lockstep_fed, lockstep_items};
 use repo_name::Instance;
-use repo_session::{Client, Who, result_text};
+use repo_session::{Client, Who, WhoError, result_text};
 use repo_store::Shelf;
 use std::alloc::Global;
 
@@ -52,16 +52,20 @@ fn feed(
     }
 }
 
-/// Answers what is pending, as far as it goes.
+/// Answers what is pending, as far as it goes. If there was no memory for a reply, the reply to the same request is taken once more.
 fn go<S: Shelf>(alloc: Global, backup: &mut PieceBackup, shelf: &mut S) -> Result<(), ScriptError> {
-    match lockstep_fed(alloc, backup, shelf) {
+    let mut went = lockstep_fed(alloc, backup, shelf);
+    if went.is_err() {
+        went = lockstep_fed(alloc, backup, shelf);
+    }
+    match went {
         Ok(_) => Ok(()),
         Err(_) => Err(ScriptError::Memory),
     }
 }
 
 /// Feeds the open file these bytes and its end, as a list, and answers what is pending; tells how many requests were answered, or
-/// which item wasn't taken, and why.
+/// which item wasn't taken, and why. If there was no memory for an item, that is told, and what is left is fed.
 fn feed_rest<S: Shelf>(
     alloc: Global,
     hex: &str,
@@ -71,7 +75,19 @@ fn feed_rest<S: Shelf>(
 ) -> Result<(), ScriptError> {
     let piece = bytes(alloc, hex)?;
     let items = [Item::Bytes(piece.as_slice()), Item::Close];
-    match lockstep_items(alloc, backup, &items, shelf) {
+    let mut fed = lockstep_items(alloc, backup, &items, shelf);
+    if let Err(ItemsError::Feed {
+        place,
+        taken,
+        error: FeedError::Memory,
+    }) = fed
+    {
+        told.line("out of memory")?;
+        let rest = piece.as_slice().get(taken..).unwrap_or(&[]);
+        let left = [Item::Bytes(rest), Item::Close];
+        fed = lockstep_items(alloc, backup, left.get(place..).unwrap_or(&[]), shelf);
+    }
+    match fed {
         Ok(asked) => told.number("answered", asked)?,
         Err(ItemsError::Feed { place, error, .. }) => {
             told.number("place", place as u64)?;
@@ -130,6 +146,7 @@ pub fn run_pieces<S: Shelf>(
     let (time, items) = cut(rest);
     match Who::new(alloc, Instance([255; 16]), host, number(time)?) {
         Ok(who) => feed_new(alloc, who, items, shelf, told),
-        Err(_) => Err(ScriptError::Line),
+        Err(WhoError::Memory) => Err(ScriptError::Memory),
+        Err(WhoError::Host) => Err(ScriptError::Line),
     }
 }

@@ -1,4 +1,4 @@
-//! A store of small files in memory, of which half are forgotten, and a prune or a check of it.
+//! A store of small files in memory, of which half are forgotten, and jobs at it.
 
 use crate::lines::ScriptError;
 use crate::stored::{done, shelf_with};
@@ -109,16 +109,9 @@ pub fn forgotten(alloc: Global, count: usize) -> Result<Name, ScriptError> {
     forget_half(alloc, &mut shelf, count)
 }
 
-/// The name of what a prune of such a store tells.
-pub fn pruned(alloc: Global, count: usize) -> Result<Name, ScriptError> {
+/// The name of the words for how a job at such a store ended.
+pub fn done_at_half(alloc: Global, count: usize, job: Job) -> Result<Name, ScriptError> {
     let mut shelf = shelf_for(alloc, count)?;
     forget_half(alloc, &mut shelf, count)?;
-    done(alloc, &mut shelf, Job::Prune)
-}
-
-/// The name of what a check of such a store tells.
-pub fn checked(alloc: Global, count: usize) -> Result<Name, ScriptError> {
-    let mut shelf = shelf_for(alloc, count)?;
-    forget_half(alloc, &mut shelf, count)?;
-    done(alloc, &mut shelf, Job::Check)
+    done(alloc, &mut shelf, job)
 }

@@ -2,7 +2,7 @@
 //! the digest of what was made, so that no work can be left out.
 
 use crate::framing::streamed;
-use crate::halves::{checked, forgotten, pruned};
+use crate::halves::{done_at_half, forgotten};
 use crate::keeping::{kept, last_row};
 use crate::lines::{ScriptError, cut, number};
 use crate::random::{chunked, last_random};
@@ -10,6 +10,7 @@ use crate::stored::{backed_up, restored};
 use crate::told::Told;
 use repo_name::{BlobKind, Name, name_of};
 use repo_pack::{PackError, PackView, PackWriter};
+use repo_world::Job;
 use std::alloc::{AllocError, Global};
 
 /// The bytes of a blob, but for the last one.
@@ -78,8 +79,10 @@ fn digest_of(alloc: Global, word: &str, size: usize) -> Result<Name, ScriptError
         "rows" => last_row(alloc, size),
         "keep" => kept(alloc, size),
         "forget" => forgotten(alloc, size),
-        "prune" => pruned(alloc, size),
-        "check" => checked(alloc, size),
+        "prune" => done_at_half(alloc, size, Job::Prune),
+        "check" => done_at_half(alloc, size, Job::Check),
+        "list" => done_at_half(alloc, size, Job::List),
+        "upgrade" => done_at_half(alloc, size, Job::Upgrade),
         _ => Err(ScriptError::Line),
     }
 }

@@ -6,13 +6,16 @@ use crate::random::random_bytes;
 use crate::stores::config_of;
 use repo_name::{Bytes, Name, Text, name_of};
 use repo_session::Emission;
-use repo_store::{MemShelf, init};
+use repo_store::{InitError, MemShelf, init};
 use repo_tree::{Entry, EntryKind, Path};
 use repo_world::{Entries, Job};
 use std::alloc::{AllocError, Global};
 
 /// The default target of a pack.
 const TARGET: usize = 16_777_216;
+
+/// How a job ends if the store had no memory for a request.
+const NO_MEMORY: &str = "refused 11";
 
 /// A shelf with the default config, but for the bytes of a pack.
 pub fn shelf_with(alloc: Global, target: usize) -> Result<MemShelf, ScriptError> {
@@ -23,6 +26,7 @@ pub fn shelf_with(alloc: Global, target: usize) -> Result<MemShelf, ScriptError>
     let mut shelf = MemShelf::new(alloc);
     match init(alloc, &mut shelf, &config) {
         Ok(()) => Ok(shelf),
+        Err(InitError::Memory) => Err(ScriptError::Memory),
         Err(_) => Err(ScriptError::Stopped),
     }
 }
@@ -41,10 +45,12 @@ fn last_piece(given: &[Emission]) -> Name {
 /// The name that the end of a job comes to: a backup's is that of its snapshot, a restore's that of the last piece that it gave
 /// out, and that of another the name of the words for how it ended.
 fn name_of_end(end: &JobEnd) -> Result<Name, ScriptError> {
-    match cut(end.text.as_str()).0 {
+    let text = end.text.as_str();
+    match cut(text).0 {
         "stored" => end.stored.ok_or(ScriptError::Stopped),
         "complete" => Ok(last_piece(end.given.as_slice())),
-        "forgotten" | "pruned" | "clean" => Ok(name_of(end.text.as_bytes())),
+        "forgotten" | "pruned" | "clean" | "listed" | "upgraded" => Ok(name_of(text.as_bytes())),
+        "refused" if text == NO_MEMORY => Err(ScriptError::Memory),
         _ => Err(ScriptError::Stopped),
     }
 }
