@@ -1,3 +1,2 @@
 mod StoredRuns
 mod FedRuns
-mod AloneRuns

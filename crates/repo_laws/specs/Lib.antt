@@ -1,3 +1,2 @@
 -- The laws that this crate proves.
 pub mod Laws
-pub mod Alone

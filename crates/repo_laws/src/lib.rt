@@ -7,15 +7,9 @@
 //!
 //! Not promised: anything of clients that share their store with others at once.
 //!
-//! The same promises are contracts of short functions over `lockstep`, which bring a job to its end over a shelf: a backup is
-//! stored ([`back_up_alone`]), a restore complete ([`restore_alone`]), a list listed ([`list_alone`]), and what is restored is what
-//! was handed in ([`back_up_and_restore`]).
-//!
-//! The definitions stand in `specs/`: `Laws`, `Alone`; what is a backup, a restore, alone and apart stands with the jobs.
+//! The definitions are in `specs/`: `Laws`. What a backup and a restore are, and what is alone and apart, is defined with the jobs.
 #![tactic(auto)]
 
-mod alone;
 mod laws;
 
-pub use alone::{back_up_alone, back_up_and_restore, list_alone, restore_alone};
 pub use laws::{restored_is_fed, restored_is_first, restored_is_first_of_fed, restored_is_handed};
