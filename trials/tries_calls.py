@@ -115,8 +115,8 @@ def a_restore_that_is_killed_leaves_whole_files():
 
 @in_store
 def what_a_restore_tells_as_complete_is_on_the_disk(yard):
-    """Each file was synced once it had its name, by the handle that wrote it, and each folder after the last name that came into it, that of the
-    target too."""
+    """Each file was synced once it had its name, by the handle that wrote it, as it wasn't opened under that name; and each folder after the last
+    name that came into it, that of the target too."""
     is_traced()
     root, target, log = filled(yard.top / "from", {"a": b"abc", "d/e/b": b"def", "d/c": b"", "f/": b""}), yard.top / "above/to", yard.top / "log"
     with Server(yard.root, connections=2) as server:
@@ -130,6 +130,8 @@ def what_a_restore_tells_as_complete_is_on_the_disk(yard):
     for at, path in names:
         synced = {event[1] for event in made[at:told_at] if event[0] == "sync"}
         holds(path in synced and os.path.dirname(path) in synced, f"{path} isn't synced, or the folder in which it stands")
+    files, opened = {event[-1] for event in made if event[0] == "rename"}, {event[1] for event in made if event[0] == "open"}
+    same((len(files), files & opened), (3, set()), "files, and those that were opened anew")
 
 
 @in_store

@@ -139,6 +139,10 @@ def a_pack_that_is_lost_or_damaged(yard):
         for data, ends in ((turned, f"bad content\ncontent {first}"), (cut, f"bad tree\ntree {last}"), (good[:10], "refused 8")):
             path.write_bytes(data)
             site.ends(f"1||{ends}\n", "restore")
+            if data != turned:
+                # A prune reads the trees, and nothing of what stays where it is.
+                site.ends(f"1||{ends}\n", "prune")
+                same(site.only("index").name, index)
             got = told(*site.words("check"))
             holds(got.startswith(f"3|fault pack {path.name} name\nfault index {index} place\n"), got)
         path.unlink()

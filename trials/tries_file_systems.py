@@ -121,14 +121,15 @@ def injected(log, path, call, inject):
 
 @in_store
 def a_listing_of_a_store_that_is_cut_off_is_a_failure(yard):
-    """The system answers one listing of the snapshots with ENOENT, as if it were over: nothing is deleted, and the next prune is well."""
+    """The system answers one listing of a folder with ENOENT, as if it were over: nothing is deleted, and the next prune is well."""
     is_traced()
     root = filled(yard.top / "from", {"d/x": b"abc", "y": b"def"})
     with Server(yard.root, connections=9) as server:
         name = stored(server.address, root)
-    for folder in ("snapshots", "index"):
+    packs = next(it for it in yard.at("data").rglob("*") if it.is_file()).parent
+    for folder in ("snapshots", "index", f"data/{packs.name}"):
         for place in (1, 2, 3):
-            log = yard.top / f"log-{folder}-{place}"
+            log = yard.top / f"log-{os.path.basename(folder)}-{place}"
             with Server(yard.root, connections=9, before=injected(log, yard.at(folder), "getdents64", f"error=ENOENT:when={place}")) as server:
                 got = told("prune", server.address)
                 was_met = "(INJECTED)" in log.read_text()

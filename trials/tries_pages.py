@@ -162,7 +162,8 @@ LINES = {
 
 @trial
 def units_say_what_they_promise():
-    """Clients that vanished are ended, a server is started until its disk is there, and a store is checked before it is pruned."""
+    """Clients that vanished are ended, a server that fails is started again without end and not before its disk is mounted, and a store is checked
+    before it is pruned."""
     for name, lines in LINES.items():
         text = (UNITS / name).read_text()
         for line in lines:
