@@ -15,7 +15,7 @@ byte. At last a backup of the same entries has to find each blob there, `stored 
 What is printed has to stay the same where each request so far comes once more before the report, and where the store is closed and
 opened before each line, unless the device failed where it reads: a store that remembers reads at other steps.
 
-Four of the worlds are scripts that were worked out by hand (scripts/cases/played_cases.py), line by line.
+Five of the worlds are scripts that were worked out by hand (scripts/cases/played_cases.py), line by line.
 
 VAULT is the program; without it the one that `scripts/vault.sh` builds is run. With N only each N-th disturbance is tried. Nothing is
 kept.

@@ -13,6 +13,7 @@ import sys
 from contextlib import contextmanager
 from pathlib import Path
 
+from cuts.calls import calls, strace, text_of
 from program import Server, matches, told
 from tries_power_cuts import is_traced
 from trying import OPTIONS, WAIT, Lacking, Skipped, awaits, holds, is_possible, same, trial
@@ -156,6 +157,27 @@ def a_listing_of_a_walk_that_is_cut_off_leaves_nothing_out(yard):
                 holds("(INJECTED)" in log.read_text(), f"{path} has no listing {place}")
                 name = matches(f"{run.returncode}|{run.stdout}|{run.stderr}", r"0\|stored ([0-9a-f]{64}) \d+ \d+\n\|")[0]
                 restores(server.address, name, yard.top / "to", entries(root))
+
+
+@in_store
+def a_directory_stays_open_while_what_is_in_it_is_read(yard):
+    """So no file system numbers it anew meanwhile, and it is not taken for another one."""
+    is_traced()
+    root, log = filled(yard.top / "from", {"d/e/x": b"abc", "d/y": b"def", "z": b"ghi"}), yard.top / "log"
+    with Server(yard.root, connections=2) as server:
+        run = subprocess.run([*strace(log), OPTIONS.program, "backup", server.address, "h", root], capture_output=True, stdin=subprocess.DEVNULL, timeout=WAIT)
+        same(run.returncode, 0)
+    opened, held = {}, {}
+    for name, words, gave in calls(log):
+        if name == "openat" and gave is not None and gave >= 0:
+            path = Path(os.fsdecode(text_of(words[1])))
+            opened[gave] = path
+            held[path] = {opened[file] for file in opened if opened[file] != path}
+        elif name == "close":
+            opened.pop(int(words[0]), None)
+    for path in (root / "d/e/x", root / "d/y", root / "z"):
+        missing = {above for above in path.parents if above == root or root in above.parents} - held[path]
+        same(missing, set(), f"directories that aren't open where {path} is opened")
 
 
 @in_store

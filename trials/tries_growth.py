@@ -10,7 +10,7 @@ import sys
 from pathlib import Path
 
 from program import Server, has_status, told
-from trying import OPTIONS, ROOT, WAIT, Skipped, holds, needs, new_folder, same, trial
+from trying import OPTIONS, ROOT, WAIT, Lacking, Skipped, holds, needs, new_folder, same, trial
 from yards import SMALL, Yard, entries, filled, is_clean, restores, stored
 
 sys.path.append(str(ROOT / "scripts/cases"))
@@ -49,7 +49,7 @@ def counts(library, mark):
 def cases_whose_memory_is_refused():
     """Each case of a store twice in a row: whichever request is refused, at most one of the two differs, and reports that there was no memory."""
     if not refused.CASES.is_file():
-        raise Skipped("there is no program of cases: `rt ci` leaves one")
+        raise Lacking("there is no program of cases: `rt ci` leaves one")
     with Yard() as yard:
         library, mark = refuser(yard), yard.top / "refused"
         total = sum(case.requests(library, mark, numbers()) for case in refused.tried_cases(refused.chosen()))

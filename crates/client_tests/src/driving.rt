@@ -96,7 +96,10 @@ fn driven_on(alloc: Global, replies: &[&str]) -> Option<String> {
     if !ticket.fits() {
         return None;
     }
-    connection.ask(&ticket, &mut reader, &mut io::sink()).ok()?;
+    let came = connection.ask(&ticket, &mut reader, &mut io::sink()).ok()?;
+    if came != reply(1, Say::Token(Token(1))) {
+        return None;
+    }
     let mut prune = prune(alloc)?;
     let answered = drive_on(
         &mut prune,

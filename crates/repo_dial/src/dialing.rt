@@ -104,7 +104,10 @@ impl<T: Net> Dial for Address<'_, T> {
 
     ghost connections = { λ _. unknown };
 
-    fn dial(&mut self) -> Option<Pair<T::Stream, T::Stream>> {
+    /// The connection that was made before, if there is one; else one that is made now.
+    fn dial(&mut self) -> Option<Pair<T::Stream, T::Stream>>
+        ensures ready { IsSome self.old.ready → result ≡ self.old.ready }
+    {
         match self.ready.take() {
             Some(ready) => Some(ready),
             None => connect(self.rt, self.address, self.idle),

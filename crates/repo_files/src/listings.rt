@@ -3,11 +3,13 @@
 //! The kit takes the error `ENOENT` of a listing for its end, as the C library does: a directory that was removed has no more
 //! names. So a listing that is cut off looks like a whole one. Therefore each directory is listed twice, and looked at again
 //! behind that.
+//!
+//! Some file systems number a directory anew once nobody has it open. So a directory whose number is compared later stays open.
 
 use crate::identities::{Identity, Links, check_stays, look};
 use crate::interruptions::retry_interrupted;
 use std::alloc::AllocGlobal;
-use std::fs::Files;
+use std::fs::{Files, ReadDir};
 use std::io::ErrorKind;
 use std::{fs, io};
 
@@ -20,14 +22,21 @@ pub struct Listing {
     pub unnamed: u64,
 }
 
-/// Lists a directory once, until an error of the system. The names come in its order.
+/// A directory that is open.
+#[derive(Drop)]
+pub struct OpenDirectory<R: Files> {
+    entries: ReadDir<R>,
+}
+
+/// Lists a directory once, until an error of the system. The names come in its order. The directory is given back as it is, open.
 fn list_until_error<R: Files + AllocGlobal + Clone + Drop>(
     rt: &R,
     path: &str,
-) -> io::Result<Listing> {
+) -> io::Result<(Listing, OpenDirectory<R>)> {
     let mut names = Vec::new(rt.alloc());
     let mut unnamed = 0u64;
-    for entry in fs::read_dir(rt, path)? {
+    let mut entries = fs::read_dir(rt, path)?;
+    for entry in entries.by_ref() {
         match entry {
             Ok(entry) => names.push(String::from_str(rt.alloc(), entry.file_name())?)?,
             Err(error) if error.kind() == ErrorKind::InvalidFilename => {
@@ -36,12 +45,13 @@ fn list_until_error<R: Files + AllocGlobal + Clone + Drop>(
             Err(error) => return Err(error),
         }
     }
-    Ok(Listing { names, unnamed })
+    Ok((Listing { names, unnamed }, OpenDirectory { entries }))
 }
 
 /// Lists a directory once. The names come in the system's order. A listing that is interrupted is begun anew.
 pub fn list<R: Files + AllocGlobal + Clone + Drop>(rt: &R, path: &str) -> io::Result<Listing> {
-    retry_interrupted(|| list_until_error(rt, path))
+    let (listing, _) = retry_interrupted(|| list_until_error(rt, path))?;
+    Ok(listing)
 }
 
 /// The names, ascending, each once.
@@ -53,21 +63,23 @@ fn sorted(mut names: Vec<String>) -> Vec<String> {
 
 /// The entries of a directory that other programs may change meanwhile: the names that either of two listings gives, ascending, each once.
 /// So a name is missing only if both listings lack it. `directory` is what the path led to before. If it leads to another directory
-/// behind the listings, or the directory was removed, the error is of the kind `NotFound`.
+/// behind the listings, or the directory was removed, the error is of the kind `NotFound`. The directory stays open as long as the
+/// second value is kept.
 pub fn entries_in<R: Files + AllocGlobal + Clone + Drop>(
     rt: &R,
     path: &str,
     links: Links,
     directory: Identity,
-) -> io::Result<Listing> {
-    let Listing { mut names, unnamed } = list(rt, path)?;
+) -> io::Result<(Listing, OpenDirectory<R>)> {
+    let (Listing { mut names, unnamed }, open) = retry_interrupted(|| list_until_error(rt, path))?;
     let mut again = list(rt, path)?;
     check_stays(rt, path, links, directory)?;
     names.append(&mut again.names)?;
-    Ok(Listing {
+    let listing = Listing {
         names: sorted(names),
         unnamed: unnamed.max(again.unnamed),
-    })
+    };
+    Ok((listing, open))
 }
 
 /// The entries of a directory that no other program changes, ascending. Two listings have to give the same entries, and the directory

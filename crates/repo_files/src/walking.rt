@@ -5,7 +5,7 @@ ghost use Rattle.repo_feeding.specs.Sources.{FitsRoom};
 
 use crate::identities::{Identity, Links, check_stays, look};
 use crate::interruptions::retry_interrupted;
-use crate::listings::{Listing, entries_in};
+use crate::listings::{Listing, OpenDirectory, entries_in};
 use crate::places::{place_in, without_slash};
 use crate::walk_ends::{Skipped, WalkError, told, unreadable};
 use repo_feeding::{Found, Source};
@@ -18,14 +18,16 @@ use std::io::{ErrorKind, Read};
 /// A directory that is open: its place, whether a link there is followed, which directory it is, and the names in it that are left, the
 /// next one last.
 #[derive(Drop)]
-struct Level {
+struct Level<R: Files> {
     place: String,
     links: Links,
     directory: Identity,
     names: Vec<String>,
+    /// It is held, so that its file system doesn't number it anew.
+    open: OpenDirectory<R>,
 }
 
-impl Level {
+impl<R: Files> Level<R> {
     /// Its path. The place of the root is empty.
     fn path(&self) -> &str {
         if self.place.is_empty() {
@@ -82,7 +84,7 @@ pub struct FolderWalk<'a, R: Files> {
     /// The word given.
     folder: &'a str,
     /// The directories that are open, the folder itself first.
-    levels: Vec<Level>,
+    levels: Vec<Level<R>>,
     file: Option<OpenedFile<R::File>>,
     skipped: Vec<Skipped>,
     /// It told why no more come.
@@ -129,8 +131,8 @@ impl<'a, R: Files + AllocGlobal + Clone + Drop> FolderWalk<'a, R> {
     {
         let alloc = self.rt.alloc();
         let Directory { word, place, .. } = *directory;
-        let mut listing = match self.list(directory) {
-            Ok(listing) => listing,
+        let (mut listing, open) = match self.list(directory) {
+            Ok(listed) => listed,
             Err(error) => return Err(told(alloc, word, &error)),
         };
         for _ in 0..listing.unnamed {
@@ -144,21 +146,22 @@ impl<'a, R: Files + AllocGlobal + Clone + Drop> FolderWalk<'a, R> {
             links: directory.links,
             directory: directory.found,
             names: listing.names,
+            open,
         })?;
         Ok(())
     }
 
-    /// The entries of a directory. The directory in which it stands has to be where it was, behind the listing.
-    fn list(&self, directory: &Directory<'_>) -> io::Result<Listing> {
+    /// The entries of a directory, which stays open. The directory in which it is has to be where it was, behind the listing.
+    fn list(&self, directory: &Directory<'_>) -> io::Result<(Listing, OpenDirectory<R>)> {
         let Directory {
             word,
             links,
             found,
             ..
         } = *directory;
-        let listing = entries_in(self.rt, word, links, found)?;
+        let listed = entries_in(self.rt, word, links, found)?;
         self.check_level()?;
-        Ok(listing)
+        Ok(listed)
     }
 
     /// Checks that the path of the directory that was opened last still leads to it. So what was opened in it before this check is its
@@ -183,7 +186,7 @@ impl<'a, R: Files + AllocGlobal + Clone + Drop> FolderWalk<'a, R> {
     }
 
     /// Adds an open directory.
-    fn add_level(&mut self, level: Level) -> Result<(), AllocError>
+    fn add_level(&mut self, level: Level<R>) -> Result<(), AllocError>
         ensures { self.new.failed ≡ self.old.failed }
     {
         self.levels.push(level)?;
