@@ -76,11 +76,13 @@ fn feed_rest<S: Shelf>(
     let piece = bytes(alloc, hex)?;
     let items = [Item::Bytes(piece.as_slice()), Item::Close];
     let mut fed = lockstep_items(alloc, backup, &items, shelf);
-    if let Err(ItemsError::Feed {
-        place,
-        taken,
-        error: FeedError::Memory,
-    }) = fed
+    if let Err(
+        ItemsError::Feed {
+            place,
+            taken,
+            error: FeedError::Memory,
+        },
+    ) = fed
     {
         told.line("out of memory")?;
         let rest = piece.as_slice().get(taken..).unwrap_or(&[]);

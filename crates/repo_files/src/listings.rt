@@ -8,7 +8,7 @@
 
 use crate::identities::{Identity, Links, check_stays, look};
 use crate::interruptions::retry_interrupted;
-use std::alloc::AllocGlobal;
+use std::alloc::{AllocGlobal, Global};
 use std::fs::{Files, ReadDir};
 use std::io::ErrorKind;
 use std::{fs, io};
@@ -28,30 +28,54 @@ pub struct OpenDirectory<R: Files> {
     entries: ReadDir<R>,
 }
 
-/// Lists a directory once, until an error of the system. The names come in its order. The directory is given back as it is, open.
+impl<R: Files + AllocGlobal + Clone + Drop> OpenDirectory<R> {
+    /// Opens a directory.
+    fn open(rt: &R, path: &str) -> io::Result<OpenDirectory<R>> {
+        let entries = fs::read_dir(rt, path)?;
+        Ok(OpenDirectory { entries })
+    }
+
+    /// Lists what wasn't listed yet, until an error of the system. The names come in its order.
+    fn list(&mut self, alloc: Global) -> io::Result<Listing> {
+        let mut names = Vec::new(alloc);
+        let mut unnamed = 0u64;
+        for entry in self.entries.by_ref() {
+            match entry {
+                Ok(entry) => names.push(String::from_str(alloc, entry.file_name())?)?,
+                Err(error) if error.kind() == ErrorKind::InvalidFilename => {
+                    unnamed = unnamed.saturating_add(1);
+                }
+                Err(error) => return Err(error),
+            }
+        }
+        Ok(Listing { names, unnamed })
+    }
+}
+
+/// Lists a directory once, until an error of the system.
 fn list_until_error<R: Files + AllocGlobal + Clone + Drop>(
     rt: &R,
     path: &str,
-) -> io::Result<(Listing, OpenDirectory<R>)> {
-    let mut names = Vec::new(rt.alloc());
-    let mut unnamed = 0u64;
-    let mut entries = fs::read_dir(rt, path)?;
-    for entry in entries.by_ref() {
-        match entry {
-            Ok(entry) => names.push(String::from_str(rt.alloc(), entry.file_name())?)?,
-            Err(error) if error.kind() == ErrorKind::InvalidFilename => {
-                unnamed = unnamed.saturating_add(1);
-            }
-            Err(error) => return Err(error),
-        }
-    }
-    Ok((Listing { names, unnamed }, OpenDirectory { entries }))
+) -> io::Result<Listing> {
+    let mut open = OpenDirectory::open(rt, path)?;
+    open.list(rt.alloc())
 }
 
 /// Lists a directory once. The names come in the system's order. A listing that is interrupted is begun anew.
 pub fn list<R: Files + AllocGlobal + Clone + Drop>(rt: &R, path: &str) -> io::Result<Listing> {
-    let (listing, _) = retry_interrupted(|| list_until_error(rt, path))?;
-    Ok(listing)
+    retry_interrupted(|| list_until_error(rt, path))
+}
+
+/// Lists a directory that was just opened. A listing that is interrupted is begun anew.
+fn list_opened<R: Files + AllocGlobal + Clone + Drop>(
+    rt: &R,
+    path: &str,
+    open: &mut OpenDirectory<R>,
+) -> io::Result<Listing> {
+    match open.list(rt.alloc()) {
+        Err(error) if error.kind() == ErrorKind::Interrupted => list(rt, path),
+        listed => listed,
+    }
 }
 
 /// The names, ascending, each once.
@@ -71,7 +95,8 @@ pub fn entries_in<R: Files + AllocGlobal + Clone + Drop>(
     links: Links,
     directory: Identity,
 ) -> io::Result<(Listing, OpenDirectory<R>)> {
-    let (Listing { mut names, unnamed }, open) = retry_interrupted(|| list_until_error(rt, path))?;
+    let mut open = OpenDirectory::open(rt, path)?;
+    let Listing { mut names, unnamed } = list_opened(rt, path, &mut open)?;
     let mut again = list(rt, path)?;
     check_stays(rt, path, links, directory)?;
     names.append(&mut again.names)?;
