@@ -1,11 +1,12 @@
 //! Walks over a file system that stops after any call, over one whose calls are interrupted, and over one in which a file or a folder is
 //! exchanged.
 
-use crate::cutting::Cut;
 use crate::fuses::Trick;
 use crate::yards::Yard;
 use repo_feeding::{Found, Source};
 use repo_files::{FolderWalk, WalkError};
+use std::alloc::AllocGlobal;
+use std::fs::Files;
 use std::os::unix::fs::symlink;
 use std::panic::Expect;
 
@@ -18,7 +19,10 @@ fn behind<'a>(text: &'a str, word: &str, bracket: &str) -> &'a str {
 }
 
 /// Whether a walk finds what a text says, to its end: each name, and in brackets what is in it.
-fn walks_on(walk: &mut FolderWalk<Cut<'_>>, wanted: &str) -> Result<bool, WalkError> {
+fn walks_on<R: Files + AllocGlobal + Clone + Drop>(
+    walk: &mut FolderWalk<R>,
+    wanted: &str,
+) -> Result<bool, WalkError> {
     let mut room = [0u8; 64];
     let mut left = wanted;
     for _ in 0..u64::MAX {
@@ -35,7 +39,11 @@ fn walks_on(walk: &mut FolderWalk<Cut<'_>>, wanted: &str) -> Result<bool, WalkEr
 }
 
 /// Whether a walk through a folder finds this.
-fn finds(files: &Cut<'_>, folder: &str, wanted: &str) -> Result<bool, WalkError> {
+fn finds<R: Files + AllocGlobal + Clone + Drop>(
+    files: &R,
+    folder: &str,
+    wanted: &str,
+) -> Result<bool, WalkError> {
     let mut walk = FolderWalk::new(files, folder)?;
     walks_on(&mut walk, wanted)
 }
