@@ -50,12 +50,15 @@ fn ended<C: Client>(
 ) -> Result<JobEnd, ScriptError> {
     let mut given = Vec::new(alloc);
     let mut ran = lockstep(alloc, client, shelf, &mut given);
-    // What was given out last may be lost: so only a client that gave nothing out goes on.
-    if ran.is_err() && client.emitted().is_empty() {
+    if ran.is_err() {
+        // What was given out last may be lost: so only a client that gave nothing out goes on.
+        if !client.emitted().is_empty() {
+            return Err(ScriptError::Memory);
+        }
         ran = lockstep(alloc, client, shelf, &mut given);
     }
     if ran.is_err() {
-        return Err(ScriptError::Memory);
+        return Err(ScriptError::Twice);
     }
     Ok(JobEnd {
         text: result_text(alloc, client.outcome(), false)?,

@@ -60,7 +60,29 @@ fn go<S: Shelf>(alloc: Global, backup: &mut PieceBackup, shelf: &mut S) -> Resul
     }
     match went {
         Ok(_) => Ok(()),
-        Err(_) => Err(ScriptError::Memory),
+        Err(_) => Err(ScriptError::Twice),
+    }
+}
+
+/// Feeds what is left of a piece and of its file's end, behind a refusal for want of memory at this place.
+fn feed_left<S: Shelf>(
+    alloc: Global,
+    rest: &[u8],
+    place: usize,
+    backup: &mut PieceBackup,
+    shelf: &mut S,
+) -> Result<Result<u64, ItemsError>, ScriptError> {
+    let left = [Item::Bytes(rest), Item::Close];
+    let fed = lockstep_items(alloc, backup, left.get(place..).unwrap_or(&[]), shelf);
+    match fed {
+        Err(ItemsError::Memory) => Err(ScriptError::Twice),
+        Err(
+            ItemsError::Feed {
+                error: FeedError::Memory,
+                ..
+            },
+        ) => Err(ScriptError::Twice),
+        fed => Ok(fed),
     }
 }
 
@@ -86,8 +108,7 @@ fn feed_rest<S: Shelf>(
     {
         told.line("out of memory")?;
         let rest = piece.as_slice().get(taken..).unwrap_or(&[]);
-        let left = [Item::Bytes(rest), Item::Close];
-        fed = lockstep_items(alloc, backup, left.get(place..).unwrap_or(&[]), shelf);
+        fed = feed_left(alloc, rest, place, backup, shelf)?;
     }
     match fed {
         Ok(asked) => told.number("answered", asked)?,

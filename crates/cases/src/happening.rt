@@ -53,7 +53,7 @@ fn happen(
     let rest = events.as_slice().get(stopped.applied..);
     match world.run(rest.unwrap_or(&[])) {
         Ok(()) => Ok(()),
-        Err(_) => Err(ScriptError::Memory),
+        Err(_) => Err(ScriptError::Twice),
     }
 }
 

@@ -14,6 +14,9 @@ pub enum ScriptError {
     Line,
     #[error("out of memory")]
     Memory,
+    /// There was no memory for a call, and none for the same call made again.
+    #[error("refused twice")]
+    Twice,
     /// A kernel didn't come to its end.
     #[error("the kernel stopped")]
     Stopped,
