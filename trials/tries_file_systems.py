@@ -11,6 +11,7 @@ import stat
 import subprocess
 import sys
 from contextlib import contextmanager
+from itertools import groupby
 from pathlib import Path
 
 from cuts.calls import calls, strace, text_of
@@ -141,6 +142,42 @@ def a_listing_of_a_store_that_is_cut_off_is_a_failure(yard):
                 same(is_clean(server.address)[:3], ("1", "1", "1"), f"{folder}, listing {place}")
     with Server(yard.root, connections=9) as server:
         restores(server.address, name, yard.top / "to", entries(root))
+
+
+def prunes_while_exchanged(yard, server, folder, log):
+    """What a prune prints whose server stops in a listing, while another folder takes the place of the one that is listed."""
+    away = yard.top / "away"
+    with subprocess.Popen([OPTIONS.program, "prune", server.address], stdin=subprocess.DEVNULL, stdout=subprocess.PIPE, stderr=subprocess.PIPE, text=True) as child:
+        try:
+            awaits(lambda: child.poll() is not None or "stopped by SIGSTOP" in log.read_text(), "a listing")
+            yard.at(folder).rename(away)
+            yard.at(folder).mkdir()
+            os.kill(int(log.read_text().split()[0]), signal.SIGCONT)
+            out, faults = child.communicate(timeout=WAIT)
+        finally:
+            child.kill()
+    yard.at(folder).rmdir()
+    away.rename(yard.at(folder))
+    return f"{child.returncode}|{out}|{faults}"
+
+
+@in_store
+def a_folder_of_a_store_is_looked_at_behind_its_listing(yard):
+    """If it is removed or exchanged while it is listed, the request fails, and nothing is deleted."""
+    is_traced()
+    with Server(yard.root, connections=9) as server:
+        stored(server.address, filled(yard.top / "from", {"d/x": b"abc", "y": b"def"}))
+    packs = next(it for it in yard.at("data").rglob("*") if it.is_file()).parent
+    for folder in ("snapshots", "index", f"data/{packs.name}"):
+        log = yard.top / f"log-{os.path.basename(folder)}"
+        with Server(yard.root, connections=9, before=injected(log, yard.at(folder), "statx", "error=ENOENT:when=2")) as server:
+            same(told("prune", server.address), "1||refused 10\n", f"{folder}, removed")
+            holds("(INJECTED)" in log.read_text(), f"{folder} isn't looked at again")
+            same(is_clean(server.address)[:3], ("1", "1", "1"), f"{folder}, removed")
+        # The fourth call ends the second listing.
+        with Server(yard.root, connections=9, before=injected(log, yard.at(folder), "getdents64", "signal=STOP:when=4")) as server:
+            same(prunes_while_exchanged(yard, server, folder, log), "1||refused 10\n", f"{folder}, exchanged")
+            same(is_clean(server.address)[:3], ("1", "1", "1"), f"{folder}, exchanged")
 
 
 @in_store
@@ -399,3 +436,29 @@ def a_restore_with_few_descriptors_is_complete(yard):
                                  preexec_fn=lambda most=most: resource.setrlimit(resource.RLIMIT_NOFILE, (most, most)))
             same((run.returncode, run.stdout, run.stderr), (0, "complete 150\n", ""), f"{most} descriptors")
             same(entries(yard.top / "to"), entries(root))
+
+
+def synced_together(log):
+    """How many files a restore synced, each time that it did, by the handles that wrote them."""
+    written, kinds = set(), []
+    for name, words, gave in calls(log):
+        if name == "openat" and gave is not None and gave >= 0 and b"!restoring-" in text_of(words[1]) and "O_CREAT" in words[2]:
+            written.add(gave)
+        if name == "close":
+            written.discard(int(words[0]))
+        kinds.append(name == "fsync" and int(words[0]) in written)
+    return [len([*group]) for is_sync, group in groupby(kinds) if is_sync]
+
+
+@in_store
+def a_restore_syncs_a_hundred_files_or_64_mib_at_a_time(yard):
+    is_traced()
+    log = yard.top / "log"
+    with Server(yard.root, connections=9) as server:
+        for number, (count, data, wanted) in enumerate(((250, b"abc", [100, 100, 50]), (4, bytes(25 << 20), [3, 1]))):
+            root, target = filled(yard.top / f"from-{number}", {f"{place:03}": data for place in range(count)}), yard.top / f"to-{number}"
+            traced = ["strace", "-f", "-qq", "-xx", "-s", "4096", "-e", "trace=openat,close,fsync", "-o", log]
+            run = subprocess.run([*traced, OPTIONS.program, "restore", server.address, stored(server.address, root), target], capture_output=True, text=True,
+                                 stdin=subprocess.DEVNULL, timeout=WAIT)
+            same((run.returncode, run.stdout, run.stderr), (0, f"complete {count}\n", ""))
+            same(synced_together(log), wanted, f"{count} files of {len(data)} bytes")

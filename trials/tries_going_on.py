@@ -127,7 +127,7 @@ def connecting_takes_no_longer_than_idle():
     """The system itself gives up after two minutes, for which nobody waits here."""
     with Full() as address:
         for words in (["locks", address, "--idle", 1], ["snapshots", address, "--idle", 1, "--retry", 1]):
-            run = subprocess.run([OPTIONS.program, *map(str, words)], capture_output=True, stdin=subprocess.DEVNULL, timeout=90)
+            run = subprocess.run([OPTIONS.program, *map(str, words)], capture_output=True, stdin=subprocess.DEVNULL, timeout=20)
             same((run.returncode, run.stdout, run.stderr), (1, b"", b"not reached\n"), words)
 
 

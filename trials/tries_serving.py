@@ -5,9 +5,11 @@ import resource
 import socket
 import subprocess
 import time
+from itertools import pairwise
 
 from program import DEVICE, TICKET, Server, frame, matches, number, read_frame, refused, rest_of, token, told
-from trying import OPTIONS, WAIT, same
+from tries_power_cuts import is_traced
+from trying import OPTIONS, WAIT, holds, same
 from yards import FAILED, in_folder, in_store, large_gets
 
 DELETION = frame(10, number(9), b"\0", bytes([7] * 32)).hex()
@@ -84,6 +86,22 @@ def a_server_without_descriptors_waits_for_them(yard):
         resource.prlimit(server.process.pid, resource.RLIMIT_NOFILE, limits)
         same(server.asked(TICKET), token(2))
         same(server.end(), "1||read failed\n")
+
+
+@in_store
+def a_server_that_cannot_accept_waits_before_it_tries_again(yard):
+    """A tenth of a second at least, each time; one line reports it."""
+    is_traced()
+    for words in ((), ("--at-once", 2)):
+        log = yard.top / f"log-{len(words)}"
+        before = ["strace", "-f", "-qq", "-ttt", "-o", log, "-e", "trace=accept4", "-e", "inject=accept4:error=EMFILE:when=1..5"]
+        with Server(yard.root, *words, before=before) as server:
+            with server.connected(bytes.fromhex(TICKET)) as client:
+                holds(read_frame(client), f"no reply, {words}")
+            same(server.end(), "1||read failed\n", words)
+        times = [float(line.split()[1]) for line in log.read_text().splitlines() if "accept4(" in line]
+        holds(len(times) >= 6, f"{len(times)} calls, {words}")
+        holds(all(later - earlier >= 0.1 for earlier, later in pairwise(times[:6])), f"the calls were at {times}, {words}")
 
 
 @in_store
