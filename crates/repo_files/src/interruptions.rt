@@ -8,7 +8,7 @@ use std::io;
 use std::io::ErrorKind;
 
 /// So often a call is made at most.
-const MOST_TRIES: u32 = 1_000;
+pub const MOST_TRIES: u32 = 1_000;
 
 /// Makes a call of the system, and makes it again if it was interrupted. If all of 1,000 calls were interrupted, the error is of the
 /// kind `TimedOut`.

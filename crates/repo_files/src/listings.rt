@@ -7,7 +7,7 @@
 //! Some file systems number a directory anew once nobody has it open. So a directory whose number is compared later stays open.
 
 use crate::identities::{Identity, Links, check_stays, look};
-use crate::interruptions::retry_interrupted;
+use crate::interruptions::{MOST_TRIES, retry_interrupted};
 use std::alloc::{AllocGlobal, Global};
 use std::fs::{Files, ReadDir};
 use std::io::ErrorKind;
@@ -29,10 +29,17 @@ pub struct OpenDirectory<R: Files> {
 }
 
 impl<R: Files + AllocGlobal + Clone + Drop> OpenDirectory<R> {
-    /// Opens a directory.
+    /// Opens a directory. An opening that is interrupted is made again, as often as by [`retry_interrupted`]. (The prover doesn't cover a
+    /// call of that with a closure whose result names a type parameter.)
     fn open(rt: &R, path: &str) -> io::Result<OpenDirectory<R>> {
-        let entries = fs::read_dir(rt, path)?;
-        Ok(OpenDirectory { entries })
+        for _ in 0..MOST_TRIES {
+            match fs::read_dir(rt, path) {
+                Ok(entries) => return Ok(OpenDirectory { entries }),
+                Err(error) if error.kind() == ErrorKind::Interrupted => {}
+                Err(error) => return Err(error),
+            }
+        }
+        Err(io::Error::from(ErrorKind::TimedOut))
     }
 
     /// Lists what wasn't listed yet, until an error of the system. The names come in its order.
