@@ -8,6 +8,15 @@ NAMES = ["notes", "photo 1.jpg", "-rf", "--help", "...", ".hidden", "line\nfeed"
          "\ufeffmark", "\u202eturned", "!restoring-0", "é" * 127, "x" * 255, "config", "ledger", "tmp"]
 # The part of a folder that changes while it is backed up. What a snapshot has of it isn't compared.
 BUSY = "busy"
+# A folder deeper than this gets no more folders. What is moved ends up no deeper, so that no path is too long to be backed up or restored.
+MOST_NAMES, MOST_BYTES = 20, 3000
+
+
+def is_too_deep(root, folder, more=()):
+    """Whether a folder has no place for another one, or for an entry with these paths below it."""
+    names = len(folder.relative_to(root).parts) + max((len(path.parts) for path in more), default=0)
+    length = len(os.fsencode(folder)) + max((len(os.fsencode(path)) for path in more), default=0)
+    return names >= MOST_NAMES or length >= MOST_BYTES
 
 
 def fresh_name(chance, folder):
@@ -40,7 +49,7 @@ def adds_file(chance, root, greatest):
 
 def adds_folder(chance, root, greatest):
     folder = chance.choice(folders_of(root))
-    if len(folder.relative_to(root).parts) < 20 and len(os.fsencode(folder)) < 3000:
+    if not is_too_deep(root, folder):
         (folder / fresh_name(chance, folder)).mkdir()
 
 
@@ -80,7 +89,8 @@ def moves(chance, root, greatest):
     if entries:
         path = chance.choice(entries)
         folder = chance.choice([folder for folder in folders_of(root) if folder != path and path not in folder.parents])
-        if len(os.fsencode(folder)) < 3000:
+        below = [each.relative_to(path) for each in path.rglob("*")] if path.is_dir() and not path.is_symlink() else []
+        if not is_too_deep(root, folder, below):
             path.rename(folder / fresh_name(chance, folder))
 
 
