@@ -1,11 +1,11 @@
 """What a store's server acknowledged, followed over its connections: which objects have to be there, and which mustn't."""
 from dataclasses import dataclass, field
 
-TICKET, LOCK, REFRESH, UNLOCK, PUT, DELETE = 1, 2, 3, 4, 9, 10
+TICKET, LOCK, REFRESH, UNLOCK, PUT, DELETE, CONFIG, UPGRADE = 1, 2, 3, 4, 9, 10, 11, 12
 TOKEN, DONE, REFUSED = 129, 130, 134
 SNAPSHOT = 2
-# The requests whose answers tell of what the ledger holds.
-OF_LEDGER = (TICKET, LOCK, REFRESH, UNLOCK)
+# The requests whose answers tell of what the ledger holds, and of what the config is.
+OF_LEDGER, OF_CONFIG = (TICKET, LOCK, REFRESH, UNLOCK), (CONFIG, UPGRADE)
 
 
 @dataclass
@@ -17,8 +17,9 @@ class Answers:
     stored: set = field(default_factory=set)
     forgotten: set = field(default_factory=set)
     count: int = 0
-    # Whether the last answer tells of the ledger.
+    # Whether the last answer tells of the ledger, and of the config.
     of_ledger: bool = False
+    of_config: bool = False
     parts: dict = field(default_factory=dict)
     pending: dict = field(default_factory=dict)
 
@@ -55,6 +56,7 @@ class Answers:
     def answers(self, request, reply):
         tag, key = request[0], (request[33:34], request[34:66].hex())
         self.of_ledger = tag in OF_LEDGER and reply[0] != REFUSED
+        self.of_config = tag in OF_CONFIG and reply[0] != REFUSED
         if tag == TICKET and reply[0] == TOKEN:
             self.tokens.add(int.from_bytes(reply[25:33], "big"))
         if tag == PUT and reply[0] == DONE:

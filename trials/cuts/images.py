@@ -68,13 +68,16 @@ class Image:
                 self.faults.append(f"{KINDS[kind[0]]}/{name} was acknowledged, and is lost" if is_there else f"{KINDS[kind[0]]}/{name} was deleted, and is back")
 
     def looks_at_ledger(self, ledgers):
-        """The ledger is that of the last answer, or a later one; the config and the folders are there."""
+        """The ledger is that of the last answer, or a later one; the folders are there."""
         if self.files.get("ledger") not in ledgers:
             self.faults.append("the ledger is lost" if "ledger" not in self.files else "the ledger is an older one than was answered by")
-        if "config" not in self.files:
-            self.faults.append("the config is lost")
         if lacking := [name for name in FOLDERS if name not in self.folders]:
             self.faults.append(f"the folder {lacking[0]} is lost")
+
+    def looks_at_config(self, configs):
+        """The config is that of the last answer, or a later one."""
+        if self.files.get("config") not in configs:
+            self.faults.append("the config is lost" if "config" not in self.files else "the config is an older one than was answered by")
 
     def places(self):
         """Of each blob that an index tells of, its bytes; each index fits its packs."""
@@ -96,23 +99,32 @@ class Image:
         """Each snapshot has all its blobs."""
         places = self.places()
         for name, data in self.whole(2).items():
-            rest, seen = [(1, json.loads(data)["tree"])], set()
-            while rest:
-                blob = rest.pop()
-                if blob not in places:
-                    self.faults.append(f"snapshots/{name}, {'acknowledged' if name in due else 'not acknowledged, or asked to be forgotten'}, lacks a blob")
-                    break
-                if blob not in seen and blob[0] == 1:
-                    for node in json.loads(places[blob])["nodes"]:
-                        rest += [(1, node["subtree"])] if node["type"] == "dir" else [(0, content) for content in node["content"]]
-                seen.add(blob)
+            if self.lacks_blob(json.loads(data), places):
+                self.faults.append(f"snapshots/{name}, {'acknowledged' if name in due else 'not acknowledged, or asked to be forgotten'}, lacks a blob")
+
+    def lacks_blob(self, snapshot, places):
+        """Whether a blob isn't in any of these places that a snapshot needs."""
+        rest, seen = [(1, snapshot["tree"])], set()
+        while rest:
+            blob = rest.pop()
+            if blob not in places:
+                return True
+            if blob not in seen and blob[0] == 1:
+                text = json.loads(places[blob])
+                for node in text["nodes"]:
+                    rest += [(1, node["subtree"])] if node["type"] == "dir" else [(0, content) for content in node["content"]]
+                # In version 2 a directory may go on in another tree.
+                rest += [(1, text["next"])] if snapshot["version"] == 2 and "next" in text else []
+            seen.add(blob)
+        return False
 
 
-def faults_of(image, answers, ledgers, is_made):
+def faults_of(image, answers, ledgers, configs, is_made):
     """All that is wrong with an image, texts."""
     image.looks_at_answers(answers)
     if is_made:
         image.looks_at_ledger(ledgers)
+        image.looks_at_config(configs)
     image.looks_at_snapshots(answers.due())
     return image.faults
 

@@ -38,7 +38,7 @@ class Judge:
         self.machine, self.few, self.chance = machine, few, random.Random(machine.seed)
         self.disk, self.answers, self.reader = Disk(machine.disk), Answers(), Reader()
         self.disk.all_lasts()
-        self.is_made, self.ledgers, self.seen, self.kept, self.found, self.calls = False, set(), set(), [], Found(), 0
+        self.is_made, self.ledgers, self.configs, self.seen, self.kept, self.found, self.calls = False, set(), set(), set(), [], Found(), 0
 
     def follows(self, log, number):
         self.disk.starts()
@@ -52,23 +52,29 @@ class Judge:
                 self.changes(event)
 
     def acknowledges(self, event, number):
-        """Whether something was acknowledged: then no ledger from before it will do."""
+        """Whether something was acknowledged: then no ledger from before it will do, and no config."""
         if event[0] == "told":
             is_whole = event[1].startswith(b"created ")
             self.is_made = self.is_made or is_whole
         else:
             is_whole = self.answers.replied((number, event[1]), event[2])
-        ledger = self.disk.get(self.machine.store / "ledger")
+        ledger, config = self.nodes()
         if is_whole and ledger and (event[0] == "told" or self.answers.of_ledger):
             self.ledgers = {ledger.now}
+        if is_whole and config and (event[0] == "told" or self.answers.of_config):
+            self.configs = {config.now}
         return is_whole
 
+    def nodes(self):
+        """The files of the ledger and of the config."""
+        return self.disk.get(self.machine.store / "ledger"), self.disk.get(self.machine.store / "config")
+
     def changes(self, event):
-        before = self.disk.get(self.machine.store / "ledger")
+        before = self.nodes()
         self.disk.apply(event)
-        after = self.disk.get(self.machine.store / "ledger")
-        if after is not None and after is not before:
-            self.ledgers.add(after.now)
+        for kept, old, new in zip((self.ledgers, self.configs), before, self.nodes()):
+            if new is not None and new is not old:
+                kept.add(new.now)
         if event[0] != "close" and not (event[0] == "open" and not event[2]):
             self.calls += 1
             # The 256 folders in data/ are alike.
@@ -84,7 +90,7 @@ class Judge:
                 continue
             self.seen.add(key)
             self.found.images += 1
-            faults = faults_of(Image(self.reader, STORE, files, folders), self.answers, self.ledgers, self.is_made)
+            faults = faults_of(Image(self.reader, STORE, files, folders), self.answers, self.ledgers, self.configs, self.is_made)
             self.found.adds(f"{model}, {where}", faults)
             if self.is_made and (is_answer and model.endswith("lost") or bool(faults) or self.chance.random() < 0.02):
                 self.kept.append((bool(faults), f"{model}, {where}", files, folders, copy.copy(self.answers.due()), max(self.answers.tokens, default=0)))

@@ -44,7 +44,7 @@ def judge_before(campaign, chance):
     judge = Sampled(Recorded(campaign, chance), 2)
     laid_before(judge, str(campaign.store.store), before)
     judge.disk.all_lasts()
-    judge.is_made, judge.ledgers = True, {(before / "ledger").read_bytes()}
+    judge.is_made, judge.ledgers, judge.configs = True, {(before / "ledger").read_bytes()}, {(before / "config").read_bytes()}
     for kind, pattern in enumerate(("data/??/*", "index/*", "snapshots/*")):
         for path in before.glob(pattern):
             judge.answers.objects[bytes([kind]), path.name] = True
