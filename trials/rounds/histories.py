@@ -4,24 +4,39 @@ from dataclasses import dataclass, field
 
 @dataclass
 class Snapshot:
-    """What a snapshot has to restore to, and whether a forget may have deleted it."""
+    """What a snapshot has to restore to. If nobody reported it stored, that is one of the `candidates`, and isn't known before it is restored."""
 
     host: str
-    wanted: dict
+    wanted: dict | None
     time: int = 0
     may_be_gone: bool = False
+    was_restored: bool = False
+    candidates: list = field(default_factory=list)
+
+    def matches(self, restored):
+        """Whether a restored folder is what the snapshot has to have."""
+        if self.wanted is None and restored in self.candidates:
+            self.wanted = restored
+        return restored == self.wanted
 
 
 @dataclass
 class History:
-    """The snapshots by their names. `perhaps` has of each host what backups were given that didn't report how they ended."""
+    """The snapshots by their names. Of the round that is played `perhaps` has by hosts what backups were given that didn't report how they ended,
+    and `forgotten` the snapshots that went, as far as they are known. `gone` has the names of all that ever went."""
 
     snapshots: dict = field(default_factory=dict)
     perhaps: dict = field(default_factory=dict)
+    forgotten: dict = field(default_factory=dict)
     gone: set = field(default_factory=set)
 
+    def begins_round(self):
+        """What no backup reported by now never comes any more, and what a forget left stays."""
+        self.perhaps, self.forgotten = {}, {}
+        for snapshot in self.snapshots.values():
+            snapshot.may_be_gone = False
+
     def stores(self, name, host, wanted):
-        self.gone.discard(name)
         self.snapshots[name] = Snapshot(host, wanted)
 
     def may_store(self, host, wanted):
@@ -30,16 +45,24 @@ class History:
     def names(self):
         return sorted(self.snapshots)
 
-    def asked(self, names):
+    def may_forget(self, names):
         """A forget was started that may delete these."""
         for name in names:
             if name in self.snapshots:
                 self.snapshots[name].may_be_gone = True
 
-    def forgotten(self, name):
-        snapshot = self.snapshots.pop(name)
-        self.may_store(snapshot.host, snapshot.wanted)
+    def forgets(self, name):
+        """This one went. It may be one that nobody reported stored."""
+        self.forgotten[name] = self.snapshots.pop(name, None)
         self.gone.add(name)
+
+    def goes_on_with(self, names):
+        """The store is one that a power cut in this round left, and has these snapshots. A backup may get the name of one that the cut took."""
+        self.gone -= set(self.forgotten)
+        known = self.snapshots | {name: snapshot for name, snapshot in self.forgotten.items() if snapshot}
+        self.snapshots = {name: snapshot for name, snapshot in known.items() if name in names}
+        for snapshot in self.snapshots.values():
+            snapshot.may_be_gone = False
 
     def rows(self):
         """Of each known snapshot its host, time and name."""
@@ -48,29 +71,23 @@ class History:
     def faults(self, listed):
         """Takes the rows that are listed now, of name, time and host. Yields each snapshot that is there and can't be, or isn't there and has to be."""
         for name, moment, host in listed:
-            if name in self.gone:
-                yield f"the snapshot {name} was forgotten, and is there"
-            elif name not in self.snapshots:
-                if host not in self.perhaps:
-                    yield f"the snapshot {name} of {host} is there, and nobody stored it"
-                self.snapshots[name] = Snapshot(host, {})
-                self.snapshots[name].wanted = None
-            if name in self.snapshots:
-                self.snapshots[name].time = int(moment)
-                self.snapshots[name].may_be_gone = False
-        there = {row[0] for row in listed}
-        for name in self.names():
-            if name not in there:
-                if not self.snapshots[name].may_be_gone:
-                    yield f"the snapshot {name} of {self.snapshots[name].host} was reported stored, and isn't there"
-                self.forgotten(name)
+            yield from self.faults_of(name, host)
+            if name not in self.snapshots:
+                self.snapshots[name] = Snapshot(host, None, candidates=self.perhaps.get(host, []))
+            self.snapshots[name].time = int(moment)
+        for name in set(self.snapshots) - {row[0] for row in listed}:
+            if not self.snapshots[name].may_be_gone:
+                yield f"the snapshot {name} of {self.snapshots[name].host} was reported stored, and isn't there"
+            self.forgets(name)
 
-    def matches(self, name, restored):
-        """Whether a restored folder is what its snapshot has to have."""
-        snapshot = self.snapshots[name]
-        if snapshot.wanted is None and restored in self.perhaps.get(snapshot.host, []):
-            snapshot.wanted = restored
-        return restored == snapshot.wanted
+    def faults_of(self, name, host):
+        """What is wrong if a snapshot of this name and host is there."""
+        if name in self.gone:
+            yield f"the snapshot {name} was forgotten, and is there"
+        elif name not in self.snapshots and host not in self.perhaps:
+            yield f"the snapshot {name} of {host} is there, and nobody stored it"
+        elif name in self.snapshots and self.snapshots[name].host != host:
+            yield f"the snapshot {name} of {self.snapshots[name].host} is there as one of {host}"
 
 
 def kept_by(rows, last, daily):

@@ -75,11 +75,12 @@ def read_plan(path):
 
 
 def new_plan(seed, at_once, version):
-    """A plan without rounds."""
+    """A plan without rounds. What is given is taken in place of what is drawn, and changes nothing else that is drawn."""
     chance = random.Random(f"plan {seed}")
     numbers, greatest = chance.choice(STORES)
-    plan = Plan(seed, chance.randrange(2, 7), at_once or chance.choice((1, 4, 8)), version or chance.choice((1, 2)), numbers, greatest)
+    plan = Plan(seed, chance.randrange(2, 7), chance.choice((1, 4, 8)), chance.choice((1, 2)), numbers, greatest)
     plan.grows = chance.random() < 0.3
+    plan.at_once, plan.format = at_once or plan.at_once, version or plan.format
     return plan
 
 
@@ -101,23 +102,42 @@ def without(items, at):
     return items[:at] + items[at + 1:]
 
 
+def windows(rounds):
+    """The rounds without some that follow one another: first without most of them, at last without one."""
+    length = len(rounds) * 7 // 8
+    while length > 0:
+        # What failed is judged behind the last round, so that one stays.
+        for at in range(0, len(rounds) - 1, length):
+            if rest := rounds[:at] + rounds[min(at + length, len(rounds) - 1):]:
+                yield rest
+        length //= 2
+
+
+def without_machine(it, machine):
+    """A round in which a machine does nothing."""
+    return replace(it, edits=[each for each in it.edits if each != machine], jobs=[job for job in it.jobs if job.machine != machine])
+
+
+def smaller_rounds(it):
+    """A round without a job, a disturbance or an edit, or with one less to do behind it."""
+    yield from (replace(it, jobs=without(it.jobs, at)) for at in range(len(it.jobs)))
+    yield from (replace(it, disturbances=without(it.disturbances, at)) for at in range(len(it.disturbances)))
+    yield from (replace(it, edits=without(it.edits, at)) for at in range(len(it.edits)))
+    if it.append_only:
+        yield replace(it, append_only=False)
+    if it.prunes:
+        yield replace(it, prunes=False)
+
+
 def smaller(plan):
-    """Plans that do a little less: first without many rounds, then without machines, one round, a job, a disturbance or an edit."""
-    rounds, made = plan.rounds, []
-    for keep in (len(rounds) // 8, len(rounds) // 4, len(rounds) // 2):
-        if 0 < keep < len(rounds):
-            made.append(rounds[-keep:])
+    """Plans that do a little less: first without many rounds, then without a machine, a round, a job, a disturbance or an edit."""
+    rounds = plan.rounds
+    for rest in windows(rounds):
+        yield replace(plan, rounds=rest)
     for machine in reversed(range(plan.machines)):
-        fewer = [Round(it.number, [each for each in it.edits if each != machine], [job for job in it.jobs if job.machine != machine], it.disturbances,
-                       it.append_only, it.prunes, it.is_cut) for it in rounds]
-        if fewer != rounds:
-            made.append(fewer)
-    made += [without(rounds, at) for at in range(len(rounds) - 1)]
+        rest = [without_machine(it, machine) for it in rounds]
+        if rest != rounds:
+            yield replace(plan, rounds=rest)
     for at, it in enumerate(rounds):
-        changed = [Round(it.number, it.edits, without(it.jobs, job), it.disturbances, it.append_only, it.prunes, it.is_cut) for job in range(len(it.jobs))]
-        changed += [Round(it.number, it.edits, it.jobs, without(it.disturbances, each), it.append_only, it.prunes, it.is_cut) for each in range(len(it.disturbances))]
-        changed += [Round(it.number, without(it.edits, each), it.jobs, it.disturbances, it.append_only, it.prunes, it.is_cut) for each in range(len(it.edits))]
-        if it.append_only or it.prunes:
-            changed.append(Round(it.number, it.edits, it.jobs, it.disturbances, False, False, it.is_cut))
-        made += [[*rounds[:at], each, *rounds[at + 1:]] for each in changed]
-    return [replace(plan, rounds=each) for each in made]
+        for each in smaller_rounds(it):
+            yield replace(plan, rounds=[*rounds[:at], each, *rounds[at + 1:]])

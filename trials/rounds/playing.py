@@ -1,8 +1,6 @@
 """Plays the rounds of a plan, and judges the store after each."""
-import json
 import os
 import random
-import re
 import shutil
 import socket
 import subprocess
@@ -11,35 +9,39 @@ import time
 from collections import Counter
 from pathlib import Path
 
-from cuts.images import Image, Reader
-from program import frame, matches, read_frame, told
-from trying import OPTIONS, ROOT, WAIT, awaits, holds, same
+from program import frame, read_frame, told
+from trying import OPTIONS, ROOT, WAIT
 
-from rounds.histories import History, kept_by
-from rounds.outcomes import ended_well, is_allowed, may_leave_lock
-from rounds.plans import FAILING
-from rounds.power_cuts import goes_on_behind_cut
-from rounds.proxies import Proxy, Tokens
+from rounds.histories import History
+from rounds.judging import judges_outcomes, judges_store
+from rounds.outcomes import Outcome, Played
+from rounds.plans import Job
+from rounds.power_cuts import begins_recorded, goes_on_behind_cut
+from rounds.proxies import Proxy, Tokens, Trouble
 from rounds.stores import Store, stops
-from rounds.trees import changes_meanwhile, contents, edited, has_odd_entries
+from rounds.trees import changes_meanwhile, contents, edited
 
-# What disturbs a round from its beginning on.
-AT_ONCE = ("cut", "stall", "clock", "busy folder", "failing call")
-# Above so many bytes a store isn't read whole to see what takes room.
-MOST_READ = 64 << 20
+# What is prepared before a round's jobs begin, and what goes on from its beginning to its end. All else comes at a moment of its own.
+PREPARED, THROUGHOUT = ("cut", "stall", "clock", "failing call"), ("busy folder",)
+# How what happened is counted.
+COUNTED = {"kill client": "clients killed", "kill server": "servers killed", "stop client": "clients stopped", "stop server": "servers stopped",
+           "cut": "connections cut", "stall": "connections stalled", "full disk": "full disks", "failing call": "servers whose calls failed",
+           "clock": "clocks that jumped", "remove locks": "removals of locks", "busy folder": "busy folders", "take tokens": "takings of tokens"}
+# The calls of the server of a store of more bytes aren't recorded, since their log has each byte several times.
+MOST_RECORDED = 32 << 20
 
 
 class Machine:
     """A machine with a folder, and its own way to the server."""
 
     def __init__(self, top, number, campaign):
-        self.number, self.host, self.folder, self.top = number, f"host{number}", top / f"folder{number}", top
-        self.proxy = Proxy(lambda: campaign.store.server, campaign.tokens)
+        self.number, self.host, self.folder = number, f"host{number}", top / f"folder{number}"
+        self.proxy = Proxy(campaign.store.connects, campaign.tokens)
         self.process, self.wanted, self.environment = None, {}, {}
         self.folder.mkdir()
 
     def runs(self, *words):
-        """What a command of this machine comes to. Where it is killed its status is below 0."""
+        """What a command of this machine comes to. If it is killed its status is below 0."""
         command = [OPTIONS.program, *map(str, words)]
         self.process = subprocess.Popen(command, stdin=subprocess.DEVNULL, stdout=subprocess.PIPE, stderr=subprocess.PIPE, env=os.environ | self.environment)
         try:
@@ -50,81 +52,134 @@ class Machine:
             raise AssertionError(f"{' '.join(command)} hangs") from None
         return f"{self.process.returncode}|{output.decode(errors='replace')}|{faults.decode(errors='replace')}"
 
+    def is_running(self):
+        return self.process is not None and self.process.poll() is None
+
+    def ends(self):
+        self.proxy.closes()
+        if self.is_running():
+            self.process.kill()
+
 
 class Campaign:
     """A plan that is played: its store, its machines, and what the store has to hold."""
 
     def __init__(self, top, plan):
-        self.top, self.plan, self.counts = Path(top), plan, Counter()
-        self.store, self.tokens, self.history, self.reader = Store(self.top, plan), Tokens(), History(), Reader()
+        self.top, self.plan, self.counts, self.counting = Path(top), plan, Counter(), threading.Lock()
+        self.store, self.tokens, self.history = Store(self.top, plan), Tokens(), History()
         self.machines = [Machine(self.top, number, self) for number in range(plan.machines)]
-        self.clock, self.restoring = clock_library(self.top), {}
+        # The way of the commands by which the store is judged.
+        self.own = Proxy(self.store.connects, self.tokens)
+        self.clock, self.config = clock_library(self.top), self.store.config()
         # The tokens that were given before the round that a power cut ends.
         self.given_before = set()
         self.store.serves()
 
+    def lacks(self):
+        """What can't be tried on this machine, in words."""
+        if not self.store.has_disk:
+            yield "no full disks (they need root)"
+        if not self.store.is_traceable:
+            yield "no failing calls and no power cuts (they need strace)"
+        if not self.clock:
+            yield "no clocks that jump (they need a C compiler)"
+
     def ends(self):
         for machine in self.machines:
-            machine.proxy.closes()
+            machine.ends()
+        self.own.closes()
         self.store.ends()
 
     def asks(self, *words):
         """A command of nobody's machine, which nothing disturbs."""
-        return told(words[0], self.store.server.address, *words[1:])
+        return told(words[0], self.own.address, *words[1:])
+
+    def adds(self, what, more=1):
+        """So much more was done."""
+        with self.counting:
+            self.counts[what] += more
+
+    def restored_folder(self, place):
+        return self.top / f"restored-{place}"
 
     def plays(self, it):
         """Plays a round; what is wrong then."""
         chance = random.Random(f"played {self.plan.seed} {it.number}")
-        for number in it.edits:
-            self.edits(self.machines[number], it)
-        self.serves_for(it)
-        outcomes = self.runs_jobs(it, chance)
-        self.counts["rounds"] += 1
-        if any(each.word == "failing call" for each in it.disturbances):
-            self.store.serves()
-        faults = [*self.judges_outcomes(it, outcomes)]
-        if it.is_cut and self.store.is_traceable:
-            faults += goes_on_behind_cut(self, chance)
-        faults += self.judges_store(it, outcomes, chance)
-        return faults
+        played = self.begins(it)
+        faults = self.runs_jobs(played)
+        self.adds("rounds")
+        if self.is_failing(it):
+            self.ends_failing(played)
+        faults += judges_outcomes(self, played)
+        if played.is_recorded:
+            faults += goes_on_behind_cut(self, played, chance)
+        if not faults:
+            faults += [*judges_store(self, played, chance), *self.own.faults]
+        return [f"round {it.number}: {fault}" for fault in faults]
+
+    # ---- before a round
+
+    def begins(self, it):
+        """Has folders change, and the store served as the round wants it."""
+        if self.store.is_half_full():
+            self.adds("rounds without edits, as the disk was half full")
+        else:
+            for number in it.edits:
+                self.edits(self.machines[number], it)
+        self.history.begins_round()
+        is_recorded = it.is_cut and self.store.is_traceable and self.store.size() <= MOST_RECORDED
+        if it.is_cut and not is_recorded:
+            self.adds("power cuts left out")
+        played = Played(it, len(self.machines), self.store.config()["version"], is_recorded, before=dict(self.history.snapshots))
+        played.objects = self.store.objects() if it.append_only else set()
+        self.serves_for(played)
+        return played
 
     def edits(self, machine, it):
         chance = random.Random(f"edits {self.plan.seed} {it.number} {machine.number}")
         edited(chance, machine.folder, self.plan.greatest, machine.number % 2 == 1)
         machine.wanted = contents(machine.folder)
 
-    def serves_for(self, it):
+    def is_failing(self, it):
+        """Whether a round has a call that fails."""
+        return self.store.is_traceable and not it.is_cut and any(each.word == "failing call" for each in it.disturbances)
+
+    def serves_for(self, played):
         """Has the store served as the round wants it."""
-        failing = [each for each in it.disturbances if each.word == "failing call"]
-        is_other = self.store.append_only != it.append_only
-        self.store.append_only = it.append_only
-        if it.is_cut and self.store.is_traceable:
-            shutil.rmtree(self.top / "before", ignore_errors=True)
-            shutil.copytree(self.store.store, self.top / "before")
-            self.given_before = set(self.tokens.seen)
-            self.store.serves_recorded()
-        elif failing and self.store.is_traceable:
-            number = failing[0].number
-            call, error = FAILING[number % len(FAILING)]
-            self.store.serves_failing(call, error, 400 + number % 60 if call == "fsync" else 5 + number % 60, 7 + number % 50)
+        is_other = self.store.append_only != played.it.append_only
+        self.store.append_only = played.it.append_only
+        if played.is_recorded:
+            begins_recorded(self)
+        elif self.is_failing(played.it):
+            self.store.serves_failing(next(each.number for each in played.it.disturbances if each.word == "failing call"))
         elif is_other:
             self.store.serves()
 
+    def ends_failing(self, played):
+        """Has the store served by a server whose calls don't fail, and notes whether one failed before."""
+        self.store.kills()
+        if self.store.has_failed():
+            self.happened(played, next(each for each in played.it.disturbances if each.word == "failing call"))
+        self.store.serves()
+
     # ---- the jobs of a round
 
-    def runs_jobs(self, it, chance):
-        """Runs all jobs, those of each machine one after another, with what disturbs them; what each came to."""
-        outcomes, failed = {}, []
+    def runs_jobs(self, played):
+        """Runs all jobs, those of each machine one after another, with what disturbs them; what went wrong in the running itself."""
+        failed, ends = [], threading.Event()
 
         def runs(target, *words):
             try:
                 target(*words)
             except Exception as error:  # noqa: BLE001
-                failed.append(error)
+                failed.append(f"{type(error).__name__}: {error}")
 
-        ends = threading.Event()
-        disturbing = [threading.Thread(target=runs, args=(self.disturbs, each, ends)) for each in it.disturbances]
-        working = [threading.Thread(target=runs, args=(self.works, machine, it, outcomes)) for machine in self.machines]
+        for each in played.it.disturbances:
+            if each.word in PREPARED:
+                runs(self.disturbs, played, each, ends)
+        disturbing = [threading.Thread(target=runs, args=(self.disturbs, played, each, ends), daemon=True)
+                      for each in played.it.disturbances if each.word not in PREPARED]
+        working = [threading.Thread(target=runs, args=(self.works, played, machine), daemon=True) for machine in self.machines]
         for each in disturbing + working:
             each.start()
         for each in working:
@@ -132,39 +187,43 @@ class Campaign:
         ends.set()
         for each in disturbing:
             each.join()
-        # A request that stood still arrives in its own round.
-        awaits(lambda: not any(machine.proxy.running for machine in self.machines), "connections end")
         for machine in self.machines:
-            machine.environment, machine.proxy.cut_at, machine.proxy.stall_at = {}, None, None
-        if failed:
-            raise failed[0]
-        return outcomes
+            # A request that stood still arrives in its own round.
+            machine.proxy.settles()
+            machine.proxy.calms()
+            machine.environment = {}
+            failed += machine.proxy.faults
+        return failed
 
-    def works(self, machine, it, outcomes):
-        for place, job in enumerate(it.jobs):
+    def works(self, played, machine):
+        for place, job in enumerate(played.it.jobs):
             if job.machine == machine.number:
                 time.sleep(job.delay)
-                outcomes[place] = machine.runs(*self.words_of(machine, job, place))
-                self.counts["jobs"] += 1
+                outcome = Outcome(job, machine.host, place)
+                words = self.words_of(machine, outcome, sorted(played.before))
+                outcome.begun = time.monotonic()
+                outcome.got = machine.runs(*words)
+                outcome.ended = time.monotonic()
+                played.outcomes.append(outcome)
+                self.adds("jobs")
+                self.adds("policies done" if job.word == "policy" else f"{job.word}s done", outcome.is_well())
 
-    def words_of(self, machine, job, place):
-        """The words of a job's command. What may come of it is noted before it begins."""
-        to, names = machine.proxy.address, self.history.names()
+    def words_of(self, machine, outcome, names):
+        """The words of a job's command. What it is to restore or forget is one of these names."""
+        job, to = outcome.job, machine.proxy.address
+        if job.word in ("restore", "forget") and not names:
+            job.word = "list"
         match job.word:
             case "backup":
                 return "backup", to, machine.host, machine.folder, "--retry", 3
-            case "restore" if names:
-                self.restoring[place] = names[job.number % len(names)]
-                return "restore", to, self.restoring[place], self.top / f"restored{place}", "--retry", 3
-            case "forget" if names:
-                chosen = {names[job.number % len(names)], names[job.number // 7 % len(names)]}
-                self.history.asked(chosen)
-                return "forget", to, *sorted(chosen)
+            case "restore":
+                outcome.names = {names[job.number % len(names)]}
+                return "restore", to, *outcome.names, self.restored_folder(outcome.place), "--retry", 3
+            case "forget":
+                outcome.names = {names[job.number % len(names)], names[job.number // 7 % len(names)]}
+                return "forget", to, *sorted(outcome.names)
             case "policy":
                 return "forget", to, "--keep-last", 1 + job.number % 3, "--keep-daily", job.number // 3 % 2
-            case "restore" | "forget":
-                job.word = "list"
-                return "snapshots", to
             case "list":
                 return "snapshots", to
             case "prune" | "check":
@@ -172,183 +231,82 @@ class Campaign:
             case word:
                 return word, to
 
-    def disturbs(self, disturbance, ends):
-        """Does what disturbs a round, and counts it if this machine and this moment allow it."""
-        machine = self.machines[disturbance.number % len(self.machines)]
-        if disturbance.word not in AT_ONCE:
-            ends.wait(disturbance.at)
-        self.counts[disturbance.word] += self.does(disturbance, machine, ends)
+    # ---- what disturbs them
 
-    def does(self, disturbance, machine, ends):
-        """Disturbs a machine or the store; whether that was possible."""
-        is_running = lambda: machine.process is not None and machine.process.poll() is None  # noqa: E731
+    def happened(self, played, disturbance):
+        """Something happened, which may explain what a job comes to."""
+        played.happened.append(disturbance)
+        self.adds(COUNTED[disturbance.word])
+
+    def disturbs(self, played, disturbance, ends):
+        """Does what disturbs a round, if this machine and this moment allow it."""
+        machine = self.machines[disturbance.number % len(self.machines)]
+        if disturbance.word not in PREPARED + THROUGHOUT:
+            ends.wait(disturbance.at)
         if disturbance.word in ("kill client", "stop client"):
             # Most clients are done in a moment: the next one that runs is meant.
-            while not is_running() and not ends.wait(0.001):
+            while not machine.is_running() and not ends.wait(0.001):
                 pass
             time.sleep(disturbance.at * disturbance.at / 8)
+        if self.does(played, disturbance, machine, ends):
+            self.happened(played, disturbance)
+
+    def does(self, played, disturbance, machine, ends):
+        """Disturbs a machine or the store; whether that happened by now."""
+        words = [job.word for job in played.it.jobs if job.machine == machine.number]
         match disturbance.word:
             case "cut" | "stall":
-                machine.proxy.stall = disturbance.seconds
-                setattr(machine.proxy, f"{disturbance.word}_at", int(4 ** (disturbance.number % 1000 / 100)))
+                # It happens once a connection brings so many bytes.
+                at = int(4 ** (disturbance.number % 1000 / 100))
+                machine.proxy.troubled(Trouble(disturbance.word, at, disturbance.seconds, lambda: self.happened(played, disturbance)))
+                return False
             case "clock" if self.clock:
                 moment = int(time.time()) + (disturbance.number - 32_768) * 100
                 machine.environment = {"LD_PRELOAD": str(self.clock), "AT": str(moment)}
-            case "busy folder":
+                return bool(words)
+            case "busy folder" if "backup" in words:
                 changes_meanwhile(random.Random(disturbance.number), machine.folder, ends)
-            case "kill client" if is_running():
+            case "kill client" if machine.is_running():
                 machine.process.kill()
             case "kill server":
                 self.store.serves()
-            case "stop client" if is_running():
+            case "stop client" if machine.is_running():
                 stops(machine.process, disturbance.seconds)
             case "stop server":
-                self.store.stops(disturbance.seconds)
+                return self.store.stops(disturbance.seconds)
             case "full disk" if self.store.has_disk:
                 self.store.fills(disturbance.seconds)
-            case "failing call":
-                # The server was started so.
-                return self.store.is_traceable
             case "remove locks":
-                told("unlock", machine.proxy.address, "--remove-all")
+                return self.removes_locks(played, disturbance, machine)
             case "take tokens":
-                self.takes_tokens(machine, disturbance.number % 5)
+                return self.takes_tokens(machine, disturbance.number % 5)
             case _:
                 return False
         return True
 
+    def removes_locks(self, played, disturbance, machine):
+        """Removes all locks; whether there may have been one. It is judged like a job."""
+        outcome = Outcome(Job(machine.number, "unlock", 0), machine.host, "unlock", begun=time.monotonic())
+        outcome.got = told("unlock", machine.proxy.address, "--remove-all")
+        outcome.ended = time.monotonic()
+        played.outcomes.append(outcome)
+        return not outcome.is_well() or "removed" in outcome.got
+
     def takes_tokens(self, machine, count):
-        """A client takes some tokens, and does nothing with them."""
+        """A client takes some tokens, and does nothing with them; whether it got one."""
         address, port = machine.proxy.address.split(":")
+        taken = 0
         try:
             with socket.create_connection((address, int(port)), timeout=WAIT) as client:
                 for number in range(count + 1):
                     client.sendall(frame(1, sequence=number + 1))
                     if not read_frame(client):
-                        return
-        except (ConnectionResetError, BrokenPipeError):
+                        break
+                    taken += 1
+        except OSError:
             # Another disturbance ended the connection.
-            return
-
-    # ---- what came of a round
-
-    def judges_outcomes(self, it, outcomes):
-        """Takes what each job reported; what no disturbance explains."""
-        # Backups come first: a policy may forget what a backup of the same round has stored.
-        for place, job in sorted(enumerate(it.jobs), key=lambda each: each[1].word != "backup"):
-            got, machine = outcomes[place], self.machines[job.machine]
-            is_killed = got.startswith("-9") and any(each.word == "kill client" for each in it.disturbances)
-            if not is_killed and not is_allowed(it, job, got):
-                yield f"round {it.number}: {job.word} of {machine.host} came to {got!r}, beside {[each.word for each in it.disturbances]}"
-            self.takes(it, job, place, machine, got)
-
-    def takes(self, it, job, place, machine, got):
-        """Takes what a job reported into what the store has to hold."""
-        if job.word == "backup":
-            if name := re.match(r"[03]\|stored ([0-9a-f]{64}) ", got):
-                if not any(each.word == "busy folder" for each in it.disturbances):
-                    same(got[0], "3" if has_odd_entries(machine.folder) else "0", f"the status of a backup that came to {got!r}")
-                self.history.stores(name[1], machine.host, machine.wanted)
-            else:
-                self.history.may_store(machine.host, machine.wanted)
-        if job.word in ("forget", "policy"):
-            if job.word == "policy":
-                self.history.asked(self.may_forget(it, 1 + job.number % 3, job.number // 3 % 2))
-            for name in re.findall(r"forgotten ([0-9a-f]{64})", got):
-                holds(name not in self.history.snapshots or self.history.snapshots[name].may_be_gone, f"{name} was forgotten, and nobody asked for it")
-        if job.word == "restore":
-            self.judges_restored(got, self.top / f"restored{place}", self.restoring[place])
-
-    def may_forget(self, it, last, daily):
-        """What a policy may forget. Of a host that stored something in the same round that may be any of its snapshots."""
-        unsure = {self.machines[job.machine].host for job in it.jobs if job.word == "backup"}
-        kept = kept_by([row for row in self.history.rows() if row[0] not in unsure], last, daily)
-        return set(self.history.names()) - kept
-
-    def restored(self, folder):
-        """What a restore left in a folder, which is removed."""
-        self.counts["comparisons"] += 1
-        found = contents(folder) if folder.exists() else {}
-        shutil.rmtree(folder, ignore_errors=True)
-        return found
-
-    def judges_restored(self, got, folder, name):
-        """A restore that is complete gave exactly what was backed up. Of one that isn't each file under its own name is whole."""
-        restored = self.restored(folder)
-        wanted = self.history.snapshots[name].wanted
-        if got.startswith("0|complete"):
-            holds(self.history.matches(name, restored), f"a complete restore of {name} gave other entries")
-        elif wanted is not None:
-            other = [path for path, digest in restored.items() if wanted.get(path, "none") != digest and not re.search(r"(^|/)!restoring-\d+$", path)]
-            holds(not other, f"a restore of {name} that was cut off left {other[:3]}")
-
-    def judges_store(self, it, outcomes, chance):
-        """What is wrong with the store, now that nobody works."""
-        locks = self.asks("locks")
-        most = sum(may_leave_lock(it, got) for got in outcomes.values())
-        # What a cut left has the locks of that moment.
-        if len(locks.splitlines()) - 1 > most and not (it.is_cut and self.store.is_traceable) or not locks.startswith("0|"):
-            yield f"round {it.number}: the locks {locks!r} are left, by {outcomes}"
-        matches(self.asks("unlock", "--remove-all"), r"0\|(removed \d+\n)*\|", "unlock")
-        if self.tokens.twice:
-            yield f"round {it.number}: the tokens {self.tokens.twice} were given twice"
-        got = self.asks("check")
-        if not ended_well("check", got):
-            yield f"round {it.number}: a check came to {got!r}"
-        listed = [line.split(" ", 2) for line in self.asks("snapshots").split("|")[1].splitlines()]
-        yield from (f"round {it.number}: {fault}" for fault in self.history.faults(listed))
-        yield from (f"round {it.number}: {fault}" for fault in self.judges_snapshots(it, chance))
-        if it.prunes and not it.append_only:
-            matches(self.asks("prune"), r"0\|pruned \d+ \d+\n\|", "prune")
-            yield from (f"round {it.number}: {fault}" for fault in self.judges_room())
-        yield from (f"round {it.number}: {fault}" for fault in self.store.faults())
-
-    def judges_snapshots(self, it, chance):
-        """Restores snapshots: in each tenth round all of them, otherwise three by chance."""
-        names = self.history.names()
-        chosen = names if it.number % 10 == 0 else chance.sample(names, min(3, len(names)))
-        for name in chosen:
-            folder = self.top / "compared"
-            got = self.asks("restore", name, folder)
-            restored = self.restored(folder)
-            if not got.startswith("0|complete ") or not self.history.matches(name, restored):
-                yield f"the restore of {name} came to {got!r}, or to other entries"
-
-    def judges_room(self):
-        """Behind a prune a store has just what its snapshots need, once."""
-        paths = [path for path in self.store.store.rglob("*") if path.is_file()]
-        if sum(path.stat().st_size for path in paths) > MOST_READ:
-            return
-        files = {f"/store/{path.relative_to(self.store.store)}": path.read_bytes() for path in paths}
-        image = Image(self.reader, "/store", files, [])
-        image.looks_at_snapshots(set(self.history.snapshots))
-        yield from image.faults
-        needed, held = needed_by(image), [blob[:2] for data in image.whole(0).values() for blob in self.reader.pack(data)]
-        self.counts["stores read"] += 1
-        if sorted(held) != sorted(needed):
-            yield f"behind a prune {len(held)} blobs are there, and {len(needed)} are needed"
-
-
-def needed_by(image):
-    """The blobs that the snapshots of an image need, by kind and name."""
-    places, needed = image.places(), set()
-    for data in image.whole(2).values():
-        snapshot = json.loads(data)
-        rest = [snapshot["tree"]]
-        while rest:
-            tree = rest.pop()
-            if (1, tree, snapshot["version"]) in needed:
-                continue
-            needed.add((1, tree, snapshot["version"]))
-            text = json.loads(places[1, tree])
-            for node in text["nodes"]:
-                if node["type"] == "dir":
-                    rest.append(node["subtree"])
-                else:
-                    needed |= {(0, name, 0) for name in node["content"]}
-            if snapshot["version"] == 2 and "next" in text:
-                rest.append(text["next"])
-    return {blob[:2] for blob in needed}
+            pass
+        return taken > 0
 
 
 def clock_library(top):

@@ -53,22 +53,33 @@ def judge_before(campaign, chance):
     return judge
 
 
-def goes_on_behind_cut(campaign, chance):
+def begins_recorded(campaign):
+    """Keeps a copy of the store as it is, and records the calls of its next server."""
+    campaign.store.kills()
+    shutil.rmtree(campaign.top / "before", ignore_errors=True)
+    shutil.copytree(campaign.store.store, campaign.top / "before")
+    campaign.given_before = campaign.tokens.now()
+    campaign.store.serves_recorded()
+
+
+def goes_on_behind_cut(campaign, played, chance):
     """Judges what a cut may leave of the recorded round, and lets the store go on from an image; what is wrong."""
     campaign.store.kills()
     judge = judge_before(campaign, chance)
     count = sum(1 for _ in open(campaign.store.log, errors="replace"))
     judge.part = min(1.0, IMAGES / 10 / max(1, count / 4))
     judge.follows(campaign.store.log, 0)
-    campaign.counts["images of cuts"] += judge.found.images
+    campaign.store.log.unlink()
+    campaign.adds("images of power cuts", judge.found.images)
     good = [each for each in judge.kept if not each[0]]
     if good and not judge.found.faults:
         _, _, files, folders, _, token = chance.choice(good)
-        campaign.counts["cuts"] += 1
+        played.is_laid = True
+        campaign.adds("power cuts")
         lays(campaign, files, folders)
         campaign.tokens.keeps(token)
     campaign.store.serves()
-    return [f"a cut: {judge.found.first}, in all {dict(judge.found.faults.most_common(4))}"] if judge.found.faults else []
+    return [f"a power cut: {judge.found.first}, in all {dict(judge.found.faults.most_common(4))}"] if judge.found.faults else []
 
 
 def lays(campaign, files, folders):
@@ -78,9 +89,4 @@ def lays(campaign, files, folders):
     shutil.rmtree(campaign.store.store)
     shutil.copytree(image / "store", campaign.store.store)
     shutil.rmtree(image)
-    there = {path.name for path in (campaign.store.store / "snapshots").iterdir()}
-    history = campaign.history
-    for name in set(history.names()) - there:
-        history.forgotten(name)
-    for name in there & history.gone:
-        history.gone.discard(name)
+    campaign.history.goes_on_with({path.name for path in (campaign.store.store / "snapshots").iterdir()})

@@ -2,9 +2,11 @@
 import socket
 import threading
 import time
+from dataclasses import dataclass
+from typing import Callable
 
 from connections import ended, listening
-from trying import WAIT
+from trying import WAIT, awaits, holds
 
 TOKEN = 129
 
@@ -21,7 +23,13 @@ class Tokens:
 
     def keeps(self, greatest):
         """Forgets those above one: they were given in a history that a power cut undid."""
-        self.seen = {token for token in self.seen if token <= greatest}
+        with self.lock:
+            self.seen = {token for token in self.seen if token <= greatest}
+
+    def now(self):
+        """A copy of those that were given so far."""
+        with self.lock:
+            return set(self.seen)
 
 
 class Replies:
@@ -47,24 +55,26 @@ class Replies:
                 self.head = b""
 
 
-class Proxy:
-    """An address that leads to whoever serves now. One connection, the first that brings so many bytes, may be cut there, or stand still."""
+@dataclass
+class Trouble:
+    """The first connection that brings so many bytes is cut there, or stands still for so long. Then `happened` is called."""
 
-    def __init__(self, server, tokens):
-        self.server, self.tokens = server, tokens
-        self.cut_at = self.stall_at = None
-        self.stall, self.running, self.lock = 0.0, 0, threading.Lock()
+    word: str
+    at: int
+    seconds: float
+    happened: Callable
+
+
+class Proxy:
+    """An address that leads to whoever serves now. `connects` gives a connection to that server."""
+
+    def __init__(self, connects, tokens):
+        self.connects, self.tokens = connects, tokens
+        self.troubles, self.faults, self.running, self.lock = [], [], 0, threading.Lock()
+        self.probe, self.is_probed = None, threading.Event()
         self.socket, self.holder = listening()
         self.address = f"127.0.0.1:{self.socket.getsockname()[1]}"
         threading.Thread(target=self.accepts, daemon=True).start()
-
-    def port(self):
-        """The port of whoever serves now. While nobody does it is waited for."""
-        for _ in range(int(WAIT / 0.005)):
-            if server := self.server():
-                return server.port
-            time.sleep(0.005)
-        raise OSError("nobody serves")
 
     def closes(self):
         ended(self.socket)
@@ -74,10 +84,37 @@ class Proxy:
     def accepts(self):
         while True:
             try:
-                client, _ = self.socket.accept()
+                client, address = self.socket.accept()
             except OSError:
                 return
+            if address == self.probe:
+                client.close()
+                self.is_probed.set()
+                continue
+            # A connection counts from here on. Its thread may start late.
+            self.counts(1)
             threading.Thread(target=self.takes, args=(client,), daemon=True).start()
+
+    def settles(self):
+        """Returns once all connections that clients began so far have ended. The system hands connections out in their order, so all that were
+        begun are counted once a probe behind them has come."""
+        with socket.socket() as probe:
+            probe.bind(("127.0.0.1", 0))
+            self.is_probed.clear()
+            self.probe = probe.getsockname()
+            probe.connect(self.socket.getsockname())
+            holds(self.is_probed.wait(WAIT), f"a proxy takes no connection in {WAIT} seconds")
+        self.probe = None
+        awaits(lambda: self.running == 0, f"{self.running} connections end")
+
+    def troubled(self, trouble):
+        with self.lock:
+            self.troubles.append(trouble)
+
+    def calms(self):
+        """No connection is cut or stands still any more."""
+        with self.lock:
+            self.troubles.clear()
 
     def counts(self, more):
         """So many more connections are under way."""
@@ -86,33 +123,52 @@ class Proxy:
 
     def takes(self, client):
         client.settimeout(WAIT)
-        self.counts(1)
         try:
-            with client, socket.create_connection(("127.0.0.1", self.port()), timeout=WAIT) as server:
+            with client, self.connects() as server:
                 threading.Thread(target=self.brings, args=(client, server, None), daemon=True).start()
                 self.brings(server, client, Replies(self.tokens))
         except OSError:
             pass
+        except Exception as error:  # noqa: BLE001
+            self.faults.append(f"a proxy: {type(error).__name__}: {error}")
         finally:
             self.counts(-1)
 
     def brings(self, source, sink, replies):
         """Brings what comes, until it ends, or is cut."""
-        count = 0
         try:
-            while piece := source.recv(65536):
-                count += len(piece)
-                if self.stall_at is not None and count >= self.stall_at:
-                    self.stall_at = None
-                    time.sleep(self.stall)
-                if self.cut_at is not None and count >= self.cut_at:
-                    self.cut_at = None
-                    sink.sendall(piece[:len(piece) // 2])
-                    ended(source, sink)
-                    return
-                if replies:
-                    replies.takes(piece)
-                sink.sendall(piece)
-            sink.shutdown(socket.SHUT_WR if not replies else socket.SHUT_RDWR)
+            self.brings_all(source, sink, replies)
         except OSError:
             ended(source, sink)
+        except Exception as error:  # noqa: BLE001
+            self.faults.append(f"a proxy: {type(error).__name__}: {error}")
+            ended(source, sink)
+
+    def brings_all(self, source, sink, replies):
+        count = 0
+        while piece := source.recv(65536):
+            count += len(piece)
+            if replies:
+                replies.takes(piece)
+            if self.is_cut(count):
+                sink.sendall(piece[:len(piece) // 2])
+                ended(source, sink)
+                return
+            sink.sendall(piece)
+        sink.shutdown(socket.SHUT_RDWR if replies else socket.SHUT_WR)
+
+    def is_cut(self, count):
+        """Whether a connection that brought so many bytes is cut here. If it is to stand still, it does so first."""
+        due = self.due(count)
+        for trouble in due:
+            trouble.happened()
+            if trouble.word == "stall":
+                time.sleep(trouble.seconds)
+        return any(trouble.word == "cut" for trouble in due)
+
+    def due(self, count):
+        """The troubles that come after so many bytes, if no other connection had them before."""
+        with self.lock:
+            due = [trouble for trouble in self.troubles if trouble.at <= count]
+            self.troubles = [trouble for trouble in self.troubles if trouble.at > count]
+        return due

@@ -1,10 +1,10 @@
 """Scripts by chance for `vault play`, of all lines, beside what the reference prints; some of them with a request for memory refused."""
 import os
 import random
+import shutil
 import subprocess
 import sys
 import time
-from collections import Counter
 
 from trying import OPTIONS, ROOT, WAIT
 
@@ -15,6 +15,8 @@ from plays import SORTS, Ended, NotUnderstood, Player  # noqa: E402
 
 JOBS = ["backup"] * 6 + ["pieces"] * 5 + ["restore"] * 5 + ["forget"] * 3 + ["prune"] * 4 + ["check"] * 2 + ["list", "keep", "upgrade"]
 BROKEN_LINES = ["step", "step 99999", "start restore 77", "start", "feed 0", "fault 0 later", "until 0 put", "ask", "file a 6", "dir", "unlock x", "  ", "old report", "deliver -1"]
+# So many requests for memory are refused of a script, each below this number.
+REFUSALS, MOST_REQUESTS = 6, 1 << 14
 PATHS = ["a", "b", "c", "d", "d/e", "d/e/f", "g", "x", "d/y", "..", "d//e", "é", "n" * 255, "n" * 256]
 
 
@@ -68,8 +70,12 @@ class Script:
                 self.adds(f"{old}start pieces {self.chance.choice('ab')} {self.chance.randrange(400_000)}")
                 if self.chance.random() < 0.8:
                     self.adds(f"finish {len(self.player.seats) - 1}")
-            case "restore" | "forget" if stored:
-                self.adds(f"{old}start {job} {self.chance.choice(stored)}")
+            case "restore" if stored:
+                self.adds(f"{old}start restore {self.chance.choice(stored)}")
+            case "forget" if stored:
+                # One may be named twice.
+                named = self.chance.choices(stored, k=self.chance.choice((1, 1, 2, 3)))
+                self.adds(f"{old}start forget {' '.join(map(str, named))}")
             case "keep":
                 self.adds(f"{old}start keep {self.chance.randrange(4)} {self.chance.randrange(3)}")
             case "prune" | "check" | "list" | "upgrade":
@@ -129,32 +135,53 @@ def fault_of(seed):
     return None if got == wanted else f"script {seed}: {got!r}, and not {wanted!r}, of\n{script.text()}"
 
 
-def fault_without_memory(seed, library, mark, chance):
-    """What is wrong where some of the requests for memory of a script are refused, each in a run of its own."""
-    script = Script(seed)
-    text, most = script.text(), 1 << 12
+def refused_at(text, library, mark, chance, most):
+    """Plays a script with a request for memory refused, one below this number; which one that was, and what the script came to. If the script
+    makes fewer requests an earlier one is tried."""
+    at = chance.randrange(1, most)
+    came = played(text, refused.refusing(library, mark, at))
+    while not mark.is_symlink() and at > 1:
+        at = chance.randrange(1, at)
+        came = played(text, refused.refusing(library, mark, at))
+    return at, came
+
+
+def is_told(faults):
+    """Whether faults end with one that reports want of memory."""
+    return faults.endswith(tuple(cause + "\n" for cause in refused.CAUSES))
+
+
+def fault_without_memory(seed, library, mark, chance, counts):
+    """What is wrong if some of the requests for memory of a script are refused, each in a run of its own."""
+    script, most = Script(seed), MOST_REQUESTS
+    text, wanted = script.text(), (1 if script.fault else 0, script.prints, script.fault or "")
     lacking = {(prints, fault + "\n" * bool(fault)) for prints, fault in refused.lacking("play", text.encode())}
-    for at in [chance.randrange(1, most) for _ in range(6)]:
-        status, output, faults = played(text, refused.refusing(library, mark, at))
-        is_cut = faults.endswith(tuple(cause + "\n" for cause in refused.CAUSES)) and script.prints.startswith(output) and status == 1
-        is_as_ever = output == script.prints and status == (1 if script.fault else 0)
-        if mark.is_symlink() and not is_cut and not is_as_ever and (output, faults) not in lacking:
+    for _ in range(REFUSALS):
+        at, (status, output, faults) = refused_at(text, library, mark, chance, most)
+        if not mark.is_symlink():
+            return f"script {seed}: its first request for memory can't be refused, of\n{text}"
+        counts["requests for memory refused"] += 1
+        is_cut = status == 1 and script.prints.startswith(output) and is_told(faults)
+        is_as_ever = (status, output) == wanted[:2] and (is_told(faults) or wanted[2].startswith(faults))
+        if not is_cut and not is_as_ever and (output, faults) not in lacking:
             return f"script {seed}, request {at} refused: {(status, output, faults)!r}, of\n{text}"
     return None
 
 
-def plays_scripts(seed, until, most, folder):
-    """Plays scripts until time is up, or one goes wrong; that one's fault, and the counts."""
-    chance, counts, number = random.Random(seed), Counter(), 0
-    library = refused.compiled(folder)
+def plays_scripts(seed, until, most, folder, counts):
+    """Plays scripts until time is up, or one goes wrong; that one's fault. It counts what it did."""
+    chance, number = random.Random(seed), 0
+    library = refused.compiled(folder) if shutil.which("gcc") else None
+    if library is None:
+        print("here no request for memory is refused (that needs gcc)", flush=True)
     while number != most and time.monotonic() < until:
         each = f"{seed}.{number}"
         counts["scripts"] += 1
         fault = fault_of(each)
-        if fault is None and number % 5 == 0:
+        if fault is None and library and number % 5 == 0:
             counts["scripts without memory"] += 1
-            fault = fault_without_memory(each, library, folder / "refused", chance)
+            fault = fault_without_memory(each, library, folder / "refused", chance, counts)
         if fault:
-            return fault, counts
+            return fault
         number += 1
-    return None, counts
+    return None
