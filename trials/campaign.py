@@ -7,12 +7,14 @@ killed, connections are cut, disks fill up, and power cuts are simulated.
 Usage: trials/campaign.py [--seed N] [--minutes M] [--rounds N] [--at-once N] [--format 1|2] [--plan FILE] [--keep FOLDER] [VAULT]
 or: trials/campaign.py --scripts [--seed N] [--minutes M] [--rounds N] [VAULT]
 
-After each round the store has to be sound. A check is clean. Each snapshot that was reported stored, and that no forget was asked to delete, is
-there, and those that are restored are the same byte for byte. After a prune nothing that was forgotten takes room. No more locks are left than
-clients were cut off. No token was given twice. The server holds no more descriptors and memory than before.
+Each job ends well, or as something explains that happened in its round. After each round the store has to be sound. A check is clean. Each
+snapshot that was reported stored is there, unless a forget was asked to delete it; and none is there that a forget reported. Those that are
+restored are the same byte for byte. After a prune nothing that was forgotten takes room. Only clients that were cut off left locks, each its
+own. No token was given twice. The server holds no connection and no file, and no more memory than before.
 
-A campaign prints its seed; without --seed it draws one. The machine decides on time and order, so the same seed may find a fault in one run and
-miss it in the next. If a plan fails, the campaign looks for the smallest plan that still fails, and stores it; --plan plays it again.
+A campaign begins by printing its seed; without --seed it draws one. At its end, also if it is interrupted, it prints what it did: what it
+counts has happened. The machine decides on time and order, so the same seed may find a fault in one run and miss it in the next. If a plan
+fails, the campaign looks for the smallest plan that still fails, and stores it; --plan plays it again.
 
 With --scripts it plays random scripts with `vault play`, and compares what is printed with the reference in scripts/cases. For some scripts it
 refuses a request for memory. A script counts as a round.
@@ -39,14 +41,16 @@ from trying import OPTIONS, clears, ends_on_signal, makes_room, new_folder
 REPEATS = 3
 
 
-def faults_of(plan, counts, rounds):
+def faults_of(plan, counts, rounds, is_told=False):
     """Plays the rounds that come; what is wrong behind the last of them, and the rounds that were played."""
     campaign, played = Campaign(new_folder(), plan), []
+    if is_told and (lacking := [*campaign.lacks()]):
+        print(f"here there are {' and '.join(lacking)}", flush=True)
     try:
         for it in rounds:
             played.append(it)
             try:
-                faults = list(campaign.plays(copy.deepcopy(it)))
+                faults = campaign.plays(copy.deepcopy(it))
             except Exception as error:  # noqa: BLE001
                 faults = [f"round {it.number}: {type(error).__name__}: {error}"]
             if faults:
@@ -66,17 +70,25 @@ def drawn(plan, most, until):
         number += 1
 
 
-def fails(plan):
-    """Whether a plan fails in one of several runs."""
-    return any(faults_of(plan, Counter(), plan.rounds)[0] for _ in range(REPEATS))
+def in_time(rounds, until):
+    """These rounds, until time is up."""
+    for it in rounds:
+        if time.monotonic() >= until:
+            return
+        yield it
+
+
+def fails(plan, until):
+    """Whether a plan fails in one of several runs, as far as that shows in time."""
+    return any(faults_of(plan, Counter(), in_time(plan.rounds, until))[0] for _ in range(REPEATS) if time.monotonic() < until)
 
 
 def shrunk(plan, until):
     """The smallest plan that still fails, as far as it is found in time."""
-    candidates = iter(smaller(plan))
+    candidates = smaller(plan)
     while time.monotonic() < until and (candidate := next(candidates, None)):
-        if fails(candidate):
-            plan, candidates = candidate, iter(smaller(candidate))
+        if fails(candidate, until):
+            plan, candidates = candidate, smaller(candidate)
     return plan
 
 
@@ -89,29 +101,46 @@ def shown(plan):
         yield from (f"  disturbed after {each.at} s for {each.seconds} s: {each.word} {each.number}" for each in it.disturbances)
 
 
+def described(plan):
+    """The words by which a plan is drawn again, and what it is like."""
+    return f"--seed {plan.seed} --at-once {plan.at_once} --format {plan.format}: {plan.machines} machines, init {plan.numbers}"
+
+
+def counted(counts, begun):
+    """What was done, in words."""
+    return ", ".join([*(f"{count} {word}" for word, count in sorted(counts.items()) if count), f"in {round(time.monotonic() - begun)} s"])
+
+
 def plays(plan, given):
     """Plays a plan that is drawn; the exit status."""
+    print(described(plan), flush=True)
     counts, begun = Counter(), time.monotonic()
     until = begun + 60 * given.minutes
-    rounds = plan.rounds or drawn(plan, given.rounds, until)
-    faults, played = faults_of(plan, counts, rounds)
-    print(f"seed {plan.seed}: {', '.join(f'{count} {word}' for word, count in sorted(counts.items()))}, in {round(time.monotonic() - begun)} s", flush=True)
+    try:
+        faults, played = faults_of(plan, counts, plan.rounds or drawn(plan, given.rounds, until), is_told=True)
+    finally:
+        print(counted(counts, begun), flush=True)
     if not faults:
         return 0
     print("\n".join(faults), flush=True)
-    plan.rounds = played
-    plan = shrunk(plan, time.monotonic() + 60 * given.shrink)
     kept = Path(given.keep) / f"campaign-{plan.seed}.json"
+    plan.rounds = played
     plan.stores(kept)
-    print("\n".join([*shown(plan), f"{kept}: play it again with --plan"]))
+    print(f"{kept}: play it again with --plan", flush=True)
+    plan = shrunk(plan, time.monotonic() + 60 * given.shrink)
+    plan.stores(kept)
+    print("\n".join(shown(plan)))
     return 1
 
 
 def plays_all_scripts(seed, given):
     """Plays scripts; the exit status."""
-    begun = time.monotonic()
-    fault, counts = plays_scripts(seed, begun + 60 * given.minutes, given.rounds, new_folder())
-    print(f"seed {seed}: {', '.join(f'{count} {word}' for word, count in sorted(counts.items()))}, in {round(time.monotonic() - begun)} s")
+    print(f"--scripts --seed {seed}", flush=True)
+    counts, begun = Counter(), time.monotonic()
+    try:
+        fault = plays_scripts(seed, begun + 60 * given.minutes, given.rounds, new_folder(), counts)
+    finally:
+        print(counted(counts, begun), flush=True)
     print(fault or "", end="")
     return 1 if fault else 0
 
@@ -141,6 +170,8 @@ def main():
         if given.scripts:
             return plays_all_scripts(seed, given)
         return plays(read_plan(given.plan) if given.plan else new_plan(seed, given.at_once, given.format), given)
+    except KeyboardInterrupt:
+        return 130
     finally:
         clears(OPTIONS.room)
 

@@ -3,24 +3,27 @@ import subprocess
 import sys
 import tempfile
 
-from trying import OPTIONS, ROOT, holds, trial
+from trying import OPTIONS, ROOT, holds, needs, trial
 
-# In minutes.
+# In minutes. A plan that fails is made smaller only with --long.
 HOUR = 60
 
 
 def campaigns(*words):
     """A campaign of these words finds nothing."""
+    # Without these there are no power cuts and no calls that fail, no clocks that jump, and no memory is refused.
+    needs("strace", "cc", "gcc")
     kept = tempfile.gettempdir()
-    command = [sys.executable, "-B", ROOT / "trials/campaign.py", "--keep", kept, "--shrink", "0", *map(str, words), OPTIONS.program]
-    run = subprocess.run(command, capture_output=True, text=True, timeout=3 * 60 * HOUR)
+    shrink = HOUR if OPTIONS.is_long else 0
+    command = [sys.executable, "-B", ROOT / "trials/campaign.py", "--keep", kept, "--shrink", str(shrink), *map(str, words), OPTIONS.program]
+    run = subprocess.run(command, capture_output=True, text=True, timeout=4 * 60 * HOUR)
     holds(run.returncode == 0, run.stdout + run.stderr)
     print(run.stdout, end="", flush=True)
 
 
 @trial(is_early=True)
 def machines_that_are_disturbed_keep_a_sound_store():
-    campaigns("--seed", 1, "--minutes", 1)
+    campaigns("--seed", 97, "--minutes", 1, "--format", 1)
 
 
 @trial(is_early=True)
