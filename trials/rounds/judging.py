@@ -2,6 +2,8 @@
 import re
 import shutil
 
+from program import frame, number, read_frame
+
 from rounds.histories import kept_by
 from rounds.outcomes import NAME, WELL, is_allowed, may_be_deleted, surplus_locks
 from rounds.pruned import faults_of_pruned
@@ -135,8 +137,7 @@ def judges_store(campaign, played, chance):
     """What is wrong with the store, now that nobody works."""
     campaign.store.rests()
     yield from judges_locks(campaign, played)
-    if campaign.tokens.twice:
-        yield f"the tokens {sorted(campaign.tokens.twice)} were given twice"
+    yield from judges_tokens(campaign)
     yield from judges_config(campaign, played)
     if played.it.append_only and not played.is_laid and (lacking := played.objects - campaign.store.objects()):
         yield f"a store that only appends lost {sorted(lacking)}"
@@ -160,6 +161,31 @@ def judges_locks(campaign, played):
     got = campaign.asks("unlock", "--remove-all")
     if not re.fullmatch(WELL["unlock"], got) or got.count("\n") != len(rows):
         yield f"unlock came to {got!r}"
+
+
+def judges_tokens(campaign):
+    """No token was given twice. The one that was taken behind the last round is still good for a lock, whatever happened since."""
+    if campaign.held:
+        lock = frame(2, number(campaign.held), b"\0", number(0), b"\1a")
+        replies = answers(campaign, lock, frame(4, number(campaign.held), sequence=2))
+        if replies != [frame(130), frame(130, sequence=2)]:
+            yield f"the token {campaign.held}, which was given before the round, is no good: {[reply.hex() for reply in replies]}"
+    reply, = answers(campaign, frame(1))
+    if reply[:-8] != frame(129, number(0))[:-8]:
+        yield f"a ticket is answered {reply.hex()}"
+    campaign.held = int.from_bytes(reply[-8:], "big")
+    if campaign.tokens.twice:
+        yield f"the tokens {sorted(campaign.tokens.twice)} were given twice"
+
+
+def answers(campaign, *requests):
+    """What the server answers to requests, one after another over one connection."""
+    replies = []
+    with campaign.own.connected() as client:
+        for request in requests:
+            client.sendall(request)
+            replies.append(read_frame(client))
+    return replies
 
 
 def judges_config(campaign, played):

@@ -2,7 +2,6 @@
 import os
 import random
 import shutil
-import socket
 import subprocess
 import threading
 import time
@@ -71,8 +70,8 @@ class Campaign:
         # The way of the commands by which the store is judged.
         self.own = Proxy(self.store.connects, self.tokens)
         self.clock, self.config = clock_library(self.top), self.store.config()
-        # The tokens that were given before the round that a power cut ends.
-        self.given_before = set()
+        # The tokens that were given before the round that a power cut ends; and one that was taken behind the last round, and wasn't used.
+        self.given_before, self.held = set(), None
         self.store.serves()
 
     def lacks(self):
@@ -294,10 +293,9 @@ class Campaign:
 
     def takes_tokens(self, machine, count):
         """A client takes some tokens, and does nothing with them; whether it got one."""
-        address, port = machine.proxy.address.split(":")
         taken = 0
         try:
-            with socket.create_connection((address, int(port)), timeout=WAIT) as client:
+            with machine.proxy.connected() as client:
                 for number in range(count + 1):
                     client.sendall(frame(1, sequence=number + 1))
                     if not read_frame(client):

@@ -76,6 +76,10 @@ class Proxy:
         self.address = f"127.0.0.1:{self.socket.getsockname()[1]}"
         threading.Thread(target=self.accepts, daemon=True).start()
 
+    def connected(self):
+        """A client's connection."""
+        return socket.create_connection(self.socket.getsockname(), timeout=WAIT)
+
     def closes(self):
         ended(self.socket)
         self.socket.close()

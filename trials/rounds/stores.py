@@ -124,7 +124,7 @@ class Store:
         """Starts the server again. Some time behind its opening a call fails, and from then on every call of another number after it. The number
         says which calls these are."""
         call, error = FAILING[number % len(FAILING)]
-        first, step = self.opening[call] + 1 + number % 60, 7 + number % 50
+        first, step = self.opening[call] + 1 + number % 20, 7 + number % 50
         injected = ["-e", f"trace={call}", "-e", f"inject={call}:error={error}:when={first}+{step}"]
         try:
             self.serves(["strace", "-f", "-qq", "-o", self.log, *injected], Traced)
