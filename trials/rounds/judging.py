@@ -13,6 +13,8 @@ from rounds.trees import contents, has_odd_entries
 ALL, FEW = 10, 3
 # A store of more bytes isn't read whole to see what takes room.
 MOST_READ = 256 << 20
+# A store keeps so many tokens that nobody has used yet.
+MOST_FRESH = 1024
 
 
 def rows_of(got):
@@ -145,6 +147,7 @@ def judges_store(campaign, played, chance):
     yield from judges_snapshots(campaign, played, chance)
     if played.it.prunes and not played.it.append_only:
         yield from judges_prune(campaign)
+    yield from holds_token(campaign)
     campaign.store.rests()
     yield from campaign.store.faults_at_rest()
 
@@ -164,18 +167,25 @@ def judges_locks(campaign, played):
 
 
 def judges_tokens(campaign):
-    """No token was given twice. The one that was taken behind the last round is still good for a lock, whatever happened since."""
+    """No token was given twice. Those that nobody had used behind the last round are still good, and the last of them is so for a lock."""
+    fresh = campaign.store.fresh_tokens()
+    if len(fresh) < MOST_FRESH and (lost := campaign.fresh - fresh):
+        yield f"the tokens {sorted(lost)} were given before the round, weren't used, and aren't in the ledger any more"
     if campaign.held:
         lock = frame(2, number(campaign.held), b"\0", number(0), b"\1a")
         replies = answers(campaign, lock, frame(4, number(campaign.held), sequence=2))
         if replies != [frame(130), frame(130, sequence=2)]:
-            yield f"the token {campaign.held}, which was given before the round, is no good: {[reply.hex() for reply in replies]}"
+            yield f"a lock of the token {campaign.held}, which was given before the round, is answered {[reply.hex() for reply in replies]}"
+    if campaign.tokens.twice:
+        yield f"the tokens {sorted(campaign.tokens.twice)} were given twice"
+
+
+def holds_token(campaign):
+    """Takes a token, which is to be used behind the next round."""
     reply, = answers(campaign, frame(1))
     if reply[:-8] != frame(129, number(0))[:-8]:
         yield f"a ticket is answered {reply.hex()}"
-    campaign.held = int.from_bytes(reply[-8:], "big")
-    if campaign.tokens.twice:
-        yield f"the tokens {sorted(campaign.tokens.twice)} were given twice"
+    campaign.held, campaign.fresh = int.from_bytes(reply[-8:], "big"), campaign.store.fresh_tokens()
 
 
 def answers(campaign, *requests):

@@ -70,8 +70,10 @@ class Campaign:
         # The way of the commands by which the store is judged.
         self.own = Proxy(self.store.connects, self.tokens)
         self.clock, self.config = clock_library(self.top), self.store.config()
-        # The tokens that were given before the round that a power cut ends; and one that was taken behind the last round, and wasn't used.
-        self.given_before, self.held = set(), None
+        # The tokens that were given before the round that a power cut ends.
+        self.given_before = set()
+        # Behind the last round: the tokens that nobody had used, and the last of them, which is for the judgement behind the next round.
+        self.fresh, self.held = set(), None
         self.store.serves()
 
     def lacks(self):

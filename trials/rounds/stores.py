@@ -63,7 +63,7 @@ class Store:
             ["mount", "-t", "tmpfs", "-o", f"size={size}", "campaign", self.disk], capture_output=True).returncode == 0
         self.is_traceable = may_trace()
         self.store, self.server, self.append_only = self.disk / "store", None, False
-        self.is_plain, self.memory, self.faults = True, 0, []
+        self.memory, self.faults = 0, []
         # One starts a server, connects to one, or fills the disk at a time.
         self.log, self.lock, self.connecting, self.filling = self.top / "log", threading.Lock(), threading.Lock(), threading.Lock()
         words = [OPTIONS.program, "init", self.store, *plan.numbers.split(), "--format", str(plan.format)]
@@ -104,8 +104,7 @@ class Store:
             words = ["--at-once", self.plan.at_once] if self.plan.at_once > 1 else []
             words += ["--append-only"] if self.append_only else []
             server = self.started(lambda: sort(self.store, *words, connections=1_000_000, before=before))
-            self.is_plain = sort is Server
-            self.memory = own_memory(server.process.pid) if self.is_plain else 0
+            self.memory = own_memory(server.process.pid) if sort is Server else 0
             self.server = server
 
     def started(self, start):
@@ -189,6 +188,12 @@ class Store:
 
     def config(self):
         return json.loads((self.store / "config").read_text())
+
+    def fresh_tokens(self):
+        """The tokens in the ledger that were given and have no lock yet."""
+        ledger = (self.store / "ledger").read_bytes()
+        count = int.from_bytes(ledger[8:10], "big")
+        return {int.from_bytes(ledger[at:at + 8], "big") for at in range(10, 10 + 8 * count, 8)}
 
     # ---- what the server has while nobody works
 
