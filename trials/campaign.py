@@ -114,19 +114,17 @@ def counted(counts, begun):
 def plays(plan, given):
     """Plays a plan that is drawn; the exit status."""
     print(described(plan), flush=True)
+    kept = Path(given.keep) / f"campaign-{plan.seed}.json"
     counts, begun = Counter(), time.monotonic()
-    until = begun + 60 * given.minutes
     try:
-        faults, played = faults_of(plan, counts, plan.rounds or drawn(plan, given.rounds, until), is_told=True)
+        faults, plan.rounds = faults_of(plan, counts, plan.rounds or drawn(plan, given.rounds, begun + 60 * given.minutes), is_told=True)
+        if faults:
+            plan.stores(kept)
+            print("\n".join([f"{kept}: play it again with --plan", *faults]), flush=True)
     finally:
         print(counted(counts, begun), flush=True)
     if not faults:
         return 0
-    print("\n".join(faults), flush=True)
-    kept = Path(given.keep) / f"campaign-{plan.seed}.json"
-    plan.rounds = played
-    plan.stores(kept)
-    print(f"{kept}: play it again with --plan", flush=True)
     plan = shrunk(plan, time.monotonic() + 60 * given.shrink)
     plan.stores(kept)
     print("\n".join(shown(plan)))
