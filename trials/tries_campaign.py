@@ -23,7 +23,7 @@ def campaigns(*words):
 
 @trial(is_early=True)
 def machines_that_are_disturbed_keep_a_sound_store():
-    campaigns("--seed", 97, "--minutes", 1, "--format", 1)
+    campaigns("--seed", 73, "--minutes", 1, "--format", 1)
 
 
 @trial(is_early=True)

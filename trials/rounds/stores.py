@@ -20,9 +20,9 @@ from rounds.plans import FAILING
 
 # The size of the disk of a store, if the store has one of its own: for files of up to so many bytes, and for greater ones.
 SMALL_FILES, SMALL_DISK, LARGE_DISK = 1_000_000, "200m", "800m"
-# How many KiB of memory of its own a server may take while nobody works, more than when it began: with small packs, and more for each pack of
-# the usual size that it may keep room for.
-SMALL_GROWTH, PACK = 4 << 10, 26_000
+# How many KiB of memory of its own a server may take while nobody works, more than when it began. Beside it there may be room for some objects
+# as great as any was. A store with packs of the usual size has ones of up to so many bytes.
+GROWTH, USUAL_PACK = 4 << 10, 26_000_000
 # The folders of objects.
 OBJECTS = ("data", "index", "snapshots")
 
@@ -56,9 +56,8 @@ class Store:
 
     def __init__(self, top, plan):
         self.top, self.disk, self.plan = Path(top), Path(top) / "disk", plan
-        self.is_small = plan.greatest <= SMALL_FILES
         self.disk.mkdir()
-        size = SMALL_DISK if self.is_small else LARGE_DISK
+        size, self.greatest = (SMALL_DISK, 0) if plan.greatest <= SMALL_FILES else (LARGE_DISK, USUAL_PACK)
         self.has_disk = os.geteuid() == 0 and subprocess.run(
             ["mount", "-t", "tmpfs", "-o", f"size={size}", "campaign", self.disk], capture_output=True).returncode == 0
         self.is_traceable = may_trace()
@@ -211,8 +210,9 @@ class Store:
             time.sleep(0.005)
 
     def most_memory(self):
-        """How many KiB of its own a server may have while nobody works."""
-        return self.memory + SMALL_GROWTH + (0 if self.is_small else (2 + self.plan.at_once) * PACK)
+        """How many KiB of its own the server may have while nobody works: it may keep room for an object of each connection, and for two more."""
+        self.greatest = max([self.greatest, *(path.stat().st_size for path in self.files())])
+        return self.memory + GROWTH + (2 + self.plan.at_once) * self.greatest // 1024
 
     def faults_at_rest(self):
         """What is wrong with the server and its folder while nobody works."""
