@@ -33,7 +33,7 @@ def machines_that_are_disturbed_at_a_store_of_version_2():
 
 @trial(is_early=True)
 def scripts_by_chance_print_what_the_reference_prints():
-    campaigns("--scripts", "--seed", 1, "--minutes", 0.5)
+    campaigns("--scripts", "--seed", 1, "--rounds", 100)
 
 
 @trial(is_long=True, is_early=True)

@@ -12,6 +12,7 @@ import subprocess
 import sys
 import tempfile
 from concurrent.futures import ThreadPoolExecutor
+from copy import deepcopy
 from pathlib import Path
 
 sys.dont_write_bytecode = True
@@ -57,25 +58,34 @@ def at_fault():
 
 
 class Lacking(Store):
-    """A store that lacks memory for the request of a number, counted from 1."""
+    """A store that lacks memory for the request of a number, counted from 1: before it reads anything, or once it has read all that the
+    request needs, which it then remembers."""
 
-    def __init__(self, number):
+    def __init__(self, number, has_read):
         super().__init__()
-        self.left = number
+        self.left, self.has_read = number, has_read
 
     def answer(self, ask):
         self.left -= 1
-        return ("refused", 11) if self.left == 0 else super().answer(ask)
+        if self.left != 0:
+            return super().answer(ask)
+        if self.has_read:
+            other = deepcopy(self)
+            other.armed = None
+            Store.answer(other, ask)
+            self.remembered |= other.remembered
+        return ("refused", 11)
 
 
 def lacking(command, text):
-    """What comes of a script where the store lacks memory for its first request, for its second, and so on: prints, and a fault."""
+    """What comes of a script if the store lacks memory for its first request, for its second, and so on: prints, and a fault."""
     for number in range(1, 10_000):
-        store = Lacking(number)
-        prints = prints_of(command, text, store=store)
-        if store.left > 0:
-            return
-        yield prints
+        for has_read in (False, True):
+            store = Lacking(number, has_read)
+            prints = prints_of(command, text, store=store)
+            if store.left > 0:
+                return
+            yield prints
 
 
 class Cases(Script):
