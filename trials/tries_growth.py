@@ -3,10 +3,12 @@
 The cases are run so: a run of each command over what a server says, and of scripts; and the program of cases, with what is asked of a store.
 And the commands themselves, over a real server, each of whose runs is done all the same, or ends with a text that says why.
 """
+import os
 import re
 import shutil
 import subprocess
 import sys
+from concurrent.futures import ThreadPoolExecutor
 from pathlib import Path
 
 from program import Server, has_status, told
@@ -50,10 +52,12 @@ def cases_whose_memory_is_refused():
     """Each case of a store twice in a row: whichever request is refused, at most one of the two differs, and reports that there was no memory."""
     if not refused.CASES.is_file():
         raise Lacking("there is no program of cases: `rt ci` leaves one")
-    with Yard() as yard:
-        library, mark = refuser(yard), yard.top / "refused"
-        total = sum(case.requests(library, mark, numbers()) for case in refused.tried_cases(refused.chosen()))
-        holds(total > 200, f"only {total} requests were refused")
+    with Yard() as yard, ThreadPoolExecutor(os.cpu_count()) as pool:
+        library, cases = refuser(yard), refused.tried_cases(refused.chosen())
+        counts_of = pool.map(lambda place: cases[place].requests(library, yard.top / f"refused-{place}", numbers()), range(len(cases)))
+        total = sum(counts_of)
+        holds(total > 2_000, f"only {total} requests were refused")
+        print(f"{len(cases)} cases, {total} requests for memory refused", flush=True)
 
 
 @trial(is_early=True)

@@ -89,6 +89,13 @@ def backup_of(size):
     return stored.name
 
 
+def restored_of(size):
+    """The name of the last bytes that a restore of a file of so many random bytes gives."""
+    store = new_store(PACK)
+    stored, _ = ended(store, Backup([(["random"], random(size))]))
+    return name_of(ended(store, Restore(stored.name))[1])
+
+
 def half_forgotten(count):
     """A store with a backup of every other one of so many files, after one of all was forgotten, and the snapshot's name."""
     store = new_store(max(LEAST_PACK, count * FILE // PACKS))
@@ -129,11 +136,8 @@ def alone(script):
 def over_a_store(script):
     """Those that have clients of a store."""
     script.heading("kernels with a store")
-    store = new_store(PACK)
-    stored, _ = ended(store, Backup([(["random"], random(SIZE))]))
-    _, last = ended(store, Restore(stored.name))
-    told(script, "backup", stored.name)
-    told(script, "restore", name_of(last))
+    told(script, "backup", backup_of(SIZE))
+    told(script, "restore", restored_of(SIZE))
     told(script, "forget", half_forgotten(SIZE)[1])
     for word, job in AT_HALF.items():
         told(script, word, done_at_half(SIZE, job))

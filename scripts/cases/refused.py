@@ -22,7 +22,7 @@ from checks import Check
 from command_cases import NO_NAMES, OPENED, row, says
 from event_cases import shows
 from job_cases import FILE_TREE, indexed, restore_of, tree_first
-from kernel_cases import AT_HALF, backup_of, done_at_half, half_forgotten, kept_of
+from kernel_cases import AT_HALF, backup_of, done_at_half, half_forgotten, kept_of, restored_of
 from kernel_cases import told as kernel
 from naming import name_of
 from piece_cases import fed_file
@@ -172,6 +172,8 @@ def clients(script):
     script.pieces([("dir", "d"), *fed_file("x", b"ab", b"c"), ("close", None), ("file", "y"), ("rest", bytes(range(200)) * 8), ("end", None)])
     script.heading("a backup to its end, by itself")
     kernel(script, "backup", backup_of(300), 300)
+    script.heading("a restore to its end, by itself")
+    kernel(script, "restore", restored_of(300), 300)
     script.heading("a forget to its end, by itself")
     kernel(script, "forget", half_forgotten(FILES)[1], FILES)
     for word, job in AT_HALF.items():

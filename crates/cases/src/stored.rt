@@ -51,6 +51,8 @@ fn name_of_end(end: &JobEnd) -> Result<Name, ScriptError> {
         "complete" => Ok(last_piece(end.given.as_slice())),
         "forgotten" | "pruned" | "clean" | "listed" | "upgraded" => Ok(name_of(text.as_bytes())),
         "refused" if text == NO_MEMORY => Err(ScriptError::Memory),
+        // One job follows another. So a lock is left only if the store had no memory for the request that removes it.
+        "busy" => Err(ScriptError::Memory),
         _ => Err(ScriptError::Stopped),
     }
 }

@@ -180,6 +180,9 @@ impl Store {
         };
         let mut writer = Outlet::new(self.alloc, room);
         let served = self.serve(&mut reader, &mut writer);
+        if writer.lacks_memory {
+            return Err(ScriptError::Memory);
+        }
         told.frames("said", writer.taken.as_slice())?;
         match served {
             Ok(count) => told.number("served", count)?,

@@ -47,6 +47,8 @@ const SIP: usize = 7;
 pub struct Outlet {
     pub taken: Vec<u8>,
     pub room: Option<usize>,
+    /// Whether there was no memory for what it was to take.
+    pub lacks_memory: bool,
 }
 
 impl Outlet {
@@ -55,14 +57,24 @@ impl Outlet {
         Outlet {
             taken: Vec::new(alloc),
             room,
+            lacks_memory: false,
         }
+    }
+
+    /// Takes all of these bytes.
+    fn take(&mut self, bytes: &[u8]) -> io::Result<usize> {
+        let taken = self.taken.write(bytes);
+        if taken.is_err() {
+            self.lacks_memory = true;
+        }
+        taken
     }
 }
 
 impl Write for Outlet {
     fn write(&mut self, buf: &[u8]) -> io::Result<usize> {
         let Some(room) = self.room else {
-            return self.taken.write(buf);
+            return self.take(buf);
         };
         let count = buf.len().min(SIP).min(room);
         let piece = buf.get(..count).unwrap_or(&[]);
@@ -70,7 +82,7 @@ impl Write for Outlet {
             return Err(io::Error::from(io::ErrorKind::BrokenPipe));
         }
         self.room = Some(room.saturating_sub(count));
-        self.taken.write(piece)
+        self.take(piece)
     }
 
     fn flush(&mut self) -> io::Result<()> {
