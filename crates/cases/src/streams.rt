@@ -61,20 +61,20 @@ impl Outlet {
         }
     }
 
-    /// Takes all of these bytes.
-    fn take(&mut self, bytes: &[u8]) -> io::Result<usize> {
-        let taken = self.taken.write(bytes);
+    /// Notes whether there was memory for what it was to take.
+    fn note(&mut self, taken: &io::Result<usize>) {
         if taken.is_err() {
             self.lacks_memory = true;
         }
-        taken
     }
 }
 
 impl Write for Outlet {
     fn write(&mut self, buf: &[u8]) -> io::Result<usize> {
         let Some(room) = self.room else {
-            return self.take(buf);
+            let taken = self.taken.write(buf);
+            self.note(&taken);
+            return taken;
         };
         let count = buf.len().min(SIP).min(room);
         let piece = buf.get(..count).unwrap_or(&[]);
@@ -82,7 +82,9 @@ impl Write for Outlet {
             return Err(io::Error::from(io::ErrorKind::BrokenPipe));
         }
         self.room = Some(room.saturating_sub(count));
-        self.take(piece)
+        let taken = self.taken.write(piece);
+        self.note(&taken);
+        taken
     }
 
     fn flush(&mut self) -> io::Result<()> {
