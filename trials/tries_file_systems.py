@@ -144,21 +144,32 @@ def a_listing_of_a_store_that_is_cut_off_is_a_failure(yard):
         restores(server.address, name, yard.top / "to", entries(root))
 
 
-def prunes_while_exchanged(yard, server, folder, log):
-    """What a prune prints whose server stops in a listing, while another folder takes the place of the one that is listed."""
-    away = yard.top / "away"
-    with subprocess.Popen([OPTIONS.program, "prune", server.address], stdin=subprocess.DEVNULL, stdout=subprocess.PIPE, stderr=subprocess.PIPE, text=True) as child:
+def told_when_stopped(words, log, acts, what):
+    """Runs a command until strace, which writes this log, stops a process. Then it does something, and lets the process go on. Returns what
+    the command printed."""
+    with subprocess.Popen(words, stdin=subprocess.DEVNULL, stdout=subprocess.PIPE, stderr=subprocess.PIPE, text=True) as child:
         try:
-            awaits(lambda: child.poll() is not None or "stopped by SIGSTOP" in log.read_text(), "a listing")
-            yard.at(folder).rename(away)
-            yard.at(folder).mkdir()
+            awaits(lambda: child.poll() is not None or log.exists() and "stopped by SIGSTOP" in log.read_text(), what)
+            holds(child.poll() is None, f"there is no {what}")
+            acts()
             os.kill(int(log.read_text().split()[0]), signal.SIGCONT)
             out, faults = child.communicate(timeout=WAIT)
         finally:
             child.kill()
+    return f"{child.returncode}|{out}|{faults}"
+
+
+def prunes_while_exchanged(yard, server, folder, log):
+    """What a prune prints whose server stops in a listing, while another folder takes the place of the one that is listed."""
+    away = yard.top / "away"
+
+    def exchanges():
+        yard.at(folder).rename(away)
+        yard.at(folder).mkdir()
+    got = told_when_stopped([OPTIONS.program, "prune", server.address], log, exchanges, f"listing of {folder}")
     yard.at(folder).rmdir()
     away.rename(yard.at(folder))
-    return f"{child.returncode}|{out}|{faults}"
+    return got
 
 
 @in_store
@@ -235,16 +246,7 @@ def stopped_in(yard, server, root, path, call, acts, place=1):
     log = yard.top / "log"
     log.unlink(missing_ok=True)
     words = [*injected(log, path, call, f"signal=STOP:when={place}"), OPTIONS.program, "backup", server.address, "h", str(root)]
-    with subprocess.Popen(words, stdin=subprocess.DEVNULL, stdout=subprocess.PIPE, stderr=subprocess.PIPE, text=True) as child:
-        try:
-            awaits(lambda: child.poll() is not None or log.exists() and "stopped by SIGSTOP" in log.read_text(), f"a call of {call}")
-            holds(child.poll() is None, f"there is no {call} of {path}")
-            acts()
-            os.kill(int(log.read_text().split()[0]), signal.SIGCONT)
-            out, faults = child.communicate(timeout=WAIT)
-        finally:
-            child.kill()
-    return f"{child.returncode}|{out}|{faults}"
+    return told_when_stopped(words, log, acts, f"{call} of {path}")
 
 
 @in_store
