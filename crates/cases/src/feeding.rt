@@ -87,7 +87,7 @@ fn feed_left<S: Shelf>(
 }
 
 /// Feeds the open file these bytes and its end, as a list, and answers what is pending; tells how many requests were answered, or
-/// which item wasn't taken, and why. If there was no memory for an item, that is told, and what is left is fed.
+/// which item wasn't taken, and why. If there was no memory for an item, it prints that, and feeds what is left.
 fn feed_rest<S: Shelf>(
     alloc: Global,
     hex: &str,

@@ -204,7 +204,7 @@ pub fn said<S: Shelf>(alloc: Global, shelf: &mut S, ask: Ask) -> Say
     .say
 }
 
-/// Whether a fault is told to an ask, if it has to be, and else what is said where nothing fails.
+/// Whether an ask is refused for a fault, if it has to be; else whether its reply is the one of a store that doesn't fail.
 pub fn is_told<S: Shelf>(
     alloc: Global,
     shelf: &mut S,
