@@ -12,7 +12,7 @@ snapshot that was reported stored is there, unless a forget was asked to delete 
 restored are the same byte for byte. After a prune nothing that was forgotten takes room. Only clients that were cut off left locks, each its
 own. No token was given twice. The server holds no connection and no file, and no more memory than before.
 
-A campaign begins by printing its seed; without --seed it draws one. At its end, also if it is interrupted, it prints what it did: what it
+A campaign begins by printing its seed; without --seed it draws one. After 60 rounds it goes on with the next seed and a new store. At its end, also if it is interrupted, it prints what it did: what it
 counts has happened. The machine decides on time and order, so the same seed may find a fault in one run and miss it in the next. If a plan
 fails, the campaign looks for the smallest plan that still fails, and stores it; --plan plays it again.
 
@@ -39,6 +39,8 @@ from trying import OPTIONS, clears, ends_on_signal, makes_room, new_folder
 
 # How often a smaller plan is played before it counts as one that doesn't fail.
 REPEATS = 3
+# After so many rounds the next seed has its turn, with a new store.
+ROUNDS = 60
 
 
 def faults_of(plan, counts, rounds, is_told=False):
@@ -94,7 +96,7 @@ def shrunk(plan, until):
 
 def shown(plan):
     """The rounds of a plan as text, a line for each step."""
-    yield f"{plan.machines} machines, --at-once {plan.at_once}, --format {plan.format}, init {plan.numbers}"
+    yield f"{plan.machines} machines, --at-once {plan.at_once}, --format {plan.format}, init {plan.numbers}, {plan.begun} snapshots at first"
     for it in plan.rounds:
         yield f"round {it.number}: edits of {it.edits}" + ", append-only" * it.append_only + ", a prune behind it" * it.prunes + ", a power cut" * it.is_cut
         yield from (f"  machine {job.machine} after {job.delay} s: {job.word} {job.number}" for job in it.jobs)
@@ -103,7 +105,7 @@ def shown(plan):
 
 def described(plan):
     """The words by which a plan is drawn again, and what it is like."""
-    return f"--seed {plan.seed} --at-once {plan.at_once} --format {plan.format}: {plan.machines} machines, init {plan.numbers}"
+    return f"--seed {plan.seed} --at-once {plan.at_once} --format {plan.format}: {plan.machines} machines, {plan.begun} snapshots at first, init {plan.numbers}"
 
 
 def counted(counts, begun):
@@ -111,22 +113,47 @@ def counted(counts, begun):
     return ", ".join([*(f"{count} {word}" for word, count in sorted(counts.items()) if count), f"in {round(time.monotonic() - begun)} s"])
 
 
-def plays(plan, given):
-    """Plays a plan that is drawn; the exit status."""
-    print(described(plan), flush=True)
-    kept = Path(given.keep) / f"campaign-{plan.seed}.json"
+def plans_of(seed, given):
+    """The plans to play: the one that is given, or one that is drawn for each seed from this one on."""
+    if given.plan:
+        yield read_plan(given.plan)
+        return
+    while True:
+        yield new_plan(seed, given.at_once, given.format)
+        seed += 1
+
+
+def first_failing(plans, given, counts, kept):
+    """Plays plans, until one fails, time is up, or there were enough rounds. The plan that fails, with what was played of it."""
+    until = time.monotonic() + 60 * given.minutes
+    for place, plan in enumerate(plans):
+        left = given.rounds - counts["rounds"]
+        if time.monotonic() >= until or left == 0:
+            return None
+        print(described(plan), flush=True)
+        rounds = plan.rounds or drawn(plan, min(ROUNDS, left) if given.rounds >= 0 else ROUNDS, until)
+        faults, plan.rounds = faults_of(plan, counts, rounds, is_told=place == 0)
+        if faults:
+            plan.stores(kept(plan))
+            print("\n".join([f"{kept(plan)}: play it again with --plan", *faults]), flush=True)
+            return plan
+    return None
+
+
+def plays(plans, given):
+    """Plays plans; the exit status."""
+    def kept(plan):
+        return Path(given.keep) / f"campaign-{plan.seed}.json"
+
     counts, begun = Counter(), time.monotonic()
     try:
-        faults, plan.rounds = faults_of(plan, counts, plan.rounds or drawn(plan, given.rounds, begun + 60 * given.minutes), is_told=True)
-        if faults:
-            plan.stores(kept)
-            print("\n".join([f"{kept}: play it again with --plan", *faults]), flush=True)
+        plan = first_failing(plans, given, counts, kept)
     finally:
         print(counted(counts, begun), flush=True)
-    if not faults:
+    if not plan:
         return 0
     plan = shrunk(plan, time.monotonic() + 60 * given.shrink)
-    plan.stores(kept)
+    plan.stores(kept(plan))
     print("\n".join(shown(plan)))
     return 1
 
@@ -167,7 +194,7 @@ def main():
         seed = given.seed if given.seed is not None else random.SystemRandom().randrange(1 << 32)
         if given.scripts:
             return plays_all_scripts(seed, given)
-        return plays(read_plan(given.plan) if given.plan else new_plan(seed, given.at_once, given.format), given)
+        return plays(plans_of(seed, given), given)
     except KeyboardInterrupt:
         return 130
     finally:

@@ -9,8 +9,8 @@ from rounds.outcomes import NAME, WELL, is_allowed, may_be_deleted, surplus_lock
 from rounds.pruned import faults_of_pruned
 from rounds.trees import contents, has_odd_entries
 
-# Each so many rounds all snapshots are restored; in the others those that never were, and so many by chance.
-ALL, FEW = 10, 3
+# Besides the snapshots that were never restored, so many by chance are restored behind a round; each tenth round, and behind a power cut, many.
+OFTEN, FEW, MANY = 10, 3, 60
 # A store of more bytes isn't read whole to see what takes room.
 MOST_READ = 256 << 20
 # A store keeps so many tokens that nobody has used yet.
@@ -225,8 +225,8 @@ def judges_snapshots(campaign, played, chance):
     """Each snapshot restores to what was backed up, the same byte for byte."""
     snapshots = campaign.history.snapshots
     names = sorted(snapshots)
-    some = {*chance.sample(names, min(FEW, len(names))), *(name for name in names if not snapshots[name].was_restored)}
-    for name in names if played.it.number % ALL == 0 or played.is_laid else sorted(some):
+    count = MANY if played.it.number % OFTEN == 0 or played.is_laid else FEW
+    for name in sorted({*chance.sample(names, min(count, len(names))), *(name for name in names if not snapshots[name].was_restored)}):
         folder = campaign.restored_folder("last")
         got = campaign.asks("restore", name, folder)
         found = restored(campaign, folder)

@@ -12,10 +12,11 @@ JOBS = ["backup"] * 12 + ["restore"] * 5 + ["list"] * 3 + ["forget"] * 4 + ["pol
 DISTURBANCES = ["kill client"] * 4 + ["kill server"] * 5 + ["cut"] * 4 + ["stall"] * 2 + ["stop client"] * 2 + ["stop server"] * 2 + [
     "full disk", "failing call", "failing call", "clock", "remove locks", "remove locks", "busy folder", "take tokens", "take tokens"]
 FAILING = [("fsync", "EIO"), ("fsync", "ENOSPC"), ("rename", "EIO"), ("write", "ENOSPC"), ("unlink,unlinkat", "EIO"), ("openat", "EMFILE"), ("getdents64", "EIO")]
-# The jobs while a store grows: it gets more objects of a kind than a page of a list has.
-GROWING = ["backup"] * 20 + ["restore", "list", "check"]
-# A store that grows does so for the first of each so many rounds.
-GROWTH, PERIOD = 50, 60
+# How many snapshots a large store begins with, each with an index and a pack of its own: more than a page of a list has.
+MANY = 300
+# The jobs of the first rounds of a large store, in which nothing is deleted.
+GROWING = ["backup"] * 12 + ["restore"] * 5 + ["list"] * 3 + ["check"] * 2
+GROWTH = 10
 # A power cut comes each so many rounds.
 CUTS = 10
 
@@ -53,14 +54,16 @@ class Round:
 
 @dataclass
 class Plan:
+    """A store, its machines, and their rounds. The store has `begun` snapshots before the first round."""
+
     seed: int
     machines: int
     at_once: int
     format: int
     numbers: str
     greatest: int
+    begun: int = 0
     rounds: list = field(default_factory=list)
-    grows: bool = False
 
     def stores(self, path):
         Path(path).write_text(json.dumps(asdict(self)))
@@ -75,11 +78,12 @@ def read_plan(path):
 
 
 def new_plan(seed, at_once, version):
-    """A plan without rounds. What is given is taken in place of what is drawn, and changes nothing else that is drawn."""
+    """A plan without rounds. Every second seed has a large store. What is given is taken in place of what is drawn, and changes nothing else
+    that is drawn."""
     chance = random.Random(f"plan {seed}")
     numbers, greatest = chance.choice(STORES)
     plan = Plan(seed, chance.randrange(2, 7), chance.choice((1, 4, 8)), chance.choice((1, 2)), numbers, greatest)
-    plan.grows = chance.random() < 0.3
+    plan.begun = MANY * (seed % 2)
     plan.at_once, plan.format = at_once or plan.at_once, version or plan.format
     return plan
 
@@ -88,7 +92,7 @@ def drawn_round(plan, number):
     """The next round of a plan. It goes by the seed and its number alone."""
     chance = random.Random(f"round {plan.seed} {number}")
     machines = range(plan.machines)
-    is_growing = plan.grows and number % PERIOD < GROWTH
+    is_growing = plan.begun > 0 and number < GROWTH
     jobs = [Job(machine, chance.choice(GROWING if is_growing else JOBS), round(chance.random() ** 3 * 0.6, 3), chance.randrange(1 << 16))
             for machine in machines for _ in range(chance.choice((0, 1, 1, 1, 2)))]
     is_cut = number % CUTS == CUTS - 1
@@ -130,8 +134,10 @@ def smaller_rounds(it):
 
 
 def smaller(plan):
-    """Plans that do a little less: first without many rounds, then without a machine, a round, a job, a disturbance or an edit."""
+    """Plans that do a little less: first with an empty store, without many rounds, then without a machine, a round, a job, a disturbance or an edit."""
     rounds = plan.rounds
+    if plan.begun:
+        yield replace(plan, begun=0)
     for rest in windows(rounds):
         yield replace(plan, rounds=rest)
     for machine in reversed(range(plan.machines)):

@@ -1,19 +1,21 @@
 """Plays the rounds of a plan, and judges the store after each."""
 import os
 import random
+import re
 import shutil
 import subprocess
 import threading
 import time
 from collections import Counter
+from concurrent.futures import ThreadPoolExecutor
 from pathlib import Path
 
 from program import frame, read_frame, told
-from trying import OPTIONS, ROOT, WAIT
+from trying import OPTIONS, ROOT, WAIT, holds
 
 from rounds.histories import History
-from rounds.judging import judges_outcomes, judges_store
-from rounds.outcomes import Outcome, Played
+from rounds.judging import judges_outcomes, judges_store, rows_of
+from rounds.outcomes import WELL, Outcome, Played
 from rounds.plans import Job
 from rounds.power_cuts import begins_recorded, goes_on_behind_cut
 from rounds.proxies import Proxy, Tokens, Trouble
@@ -75,6 +77,29 @@ class Campaign:
         # Behind the last round: the tokens that nobody had used, and the last of them, which is for the judgement behind the next round.
         self.fresh, self.held = set(), None
         self.store.serves()
+        self.stores_many()
+
+    def stores_many(self):
+        """Stores the snapshots that the store begins with: the machines do so side by side."""
+        shares = [range(machine.number, self.plan.begun, len(self.machines)) for machine in self.machines]
+        with ThreadPoolExecutor(len(self.machines)) as pool:
+            for machine, stored in zip(self.machines, pool.map(self.stores_share, self.machines, shares)):
+                for name, wanted in stored:
+                    self.history.stores(name, machine.host, wanted)
+                    self.history.snapshots[name].was_restored = True
+        faults = [*self.history.faults(rows_of(self.asks("snapshots")))]
+        holds(not faults, f"before the first round {faults}")
+
+    def stores_share(self, machine, numbers):
+        """Backs up a machine once for each number, with other bytes of one file; the names of the snapshots, and what they have."""
+        stored = []
+        for number in numbers:
+            (machine.folder / "begun").write_text(f"number {number} of {self.plan.seed}")
+            machine.wanted = contents(machine.folder)
+            got = machine.runs("backup", machine.proxy.address, machine.host, machine.folder)
+            holds(re.fullmatch(WELL["backup"], got), f"a backup before the first round came to {got!r}")
+            stored.append((got.split(" ")[1], machine.wanted))
+        return stored
 
     def lacks(self):
         """What can't be tried on this machine, in words."""
