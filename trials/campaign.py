@@ -49,6 +49,8 @@ def faults_of(plan, counts, rounds, is_told=False):
     if is_told and (lacking := [*campaign.lacks()]):
         print(f"here there are {' and '.join(lacking)}", flush=True)
     try:
+        if faults := campaign.opens():
+            return faults, played
         for it in rounds:
             played.append(it)
             try:

@@ -23,12 +23,12 @@ def campaigns(*words):
 
 @trial(is_early=True)
 def machines_that_are_disturbed_keep_a_sound_store():
-    campaigns("--seed", 73, "--minutes", 1, "--format", 1)
+    campaigns("--seed", 62, "--minutes", 1, "--format", 1)
 
 
 @trial(is_early=True)
 def machines_that_are_disturbed_at_a_store_of_version_2():
-    campaigns("--seed", 2, "--minutes", 1, "--format", 2, "--at-once", 8)
+    campaigns("--seed", 1005, "--minutes", 1, "--format", 2)
 
 
 @trial(is_early=True)

@@ -9,7 +9,7 @@ from rounds.outcomes import NAME, WELL, is_allowed, may_be_deleted, surplus_lock
 from rounds.pruned import faults_of_pruned
 from rounds.trees import contents, has_odd_entries
 
-# Besides the snapshots that were never restored, so many by chance are restored behind a round; each tenth round, and behind a power cut, many.
+# Behind a round many of the snapshots are restored that never were, and a few others by chance; each tenth round, and behind a power cut, many others.
 OFTEN, FEW, MANY = 10, 3, 60
 # A store of more bytes isn't read whole to see what takes room.
 MOST_READ = 256 << 20
@@ -224,9 +224,10 @@ def judges_objects(campaign):
 def judges_snapshots(campaign, played, chance):
     """Each snapshot restores to what was backed up, the same byte for byte."""
     snapshots = campaign.history.snapshots
-    names = sorted(snapshots)
+    unread = [name for name in sorted(snapshots) if not snapshots[name].was_restored]
+    others = [name for name in sorted(snapshots) if snapshots[name].was_restored]
     count = MANY if played.it.number % OFTEN == 0 or played.is_laid else FEW
-    for name in sorted({*chance.sample(names, min(count, len(names))), *(name for name in names if not snapshots[name].was_restored)}):
+    for name in sorted(chance.sample(unread, min(MANY, len(unread))) + chance.sample(others, min(count, len(others)))):
         folder = campaign.restored_folder("last")
         got = campaign.asks("restore", name, folder)
         found = restored(campaign, folder)

@@ -76,19 +76,23 @@ class Campaign:
         self.given_before = set()
         # Behind the last round: the tokens that nobody had used, and the last of them, which is for the judgement behind the next round.
         self.fresh, self.held = set(), None
-        self.store.serves()
-        self.stores_many()
+
+    def opens(self):
+        """Serves the store, and stores the snapshots that it begins with; what is wrong then."""
+        try:
+            self.store.serves()
+            return [f"before the first round: {fault}" for fault in self.stores_many()]
+        except Exception as error:  # noqa: BLE001
+            return [f"before the first round: {type(error).__name__}: {error}"]
 
     def stores_many(self):
-        """Stores the snapshots that the store begins with: the machines do so side by side."""
+        """Stores the snapshots that the store begins with: the machines do so side by side. Yields what is wrong with the list of them."""
         shares = [range(machine.number, self.plan.begun, len(self.machines)) for machine in self.machines]
         with ThreadPoolExecutor(len(self.machines)) as pool:
             for machine, stored in zip(self.machines, pool.map(self.stores_share, self.machines, shares)):
                 for name, wanted in stored:
                     self.history.stores(name, machine.host, wanted)
-                    self.history.snapshots[name].was_restored = True
-        faults = [*self.history.faults(rows_of(self.asks("snapshots")))]
-        holds(not faults, f"before the first round {faults}")
+        yield from self.history.faults(rows_of(self.asks("snapshots")))
 
     def stores_share(self, machine, numbers):
         """Backs up a machine once for each number, with other bytes of one file; the names of the snapshots, and what they have."""

@@ -78,6 +78,8 @@ def goes_on_behind_cut(campaign, played, chance):
         campaign.adds("power cuts")
         lays(campaign, files, folders)
         campaign.tokens.keeps(token)
+    else:
+        campaign.adds("power cuts behind which nothing was kept")
     campaign.store.serves()
     return [f"a power cut: {judge.found.first}, in all {dict(judge.found.faults.most_common(4))}"] if judge.found.faults else []
 
