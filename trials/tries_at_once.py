@@ -5,6 +5,7 @@ import re
 import resource
 import socket
 import threading
+from contextlib import suppress
 
 from connections import Watched
 from program import TICKET, Server, frame, has_status, matches, number, read_frame, refused, rest_of, token, told
@@ -12,7 +13,7 @@ from tries_hostile import files, memory
 from trying import WAIT, awaits, holds, same, trial
 from yards import LARGE_OBJECT, Yard, entries, filled, gives_back, in_store, is_clean, large_gets, restores, stored
 
-PUT = 9
+LOCK, PUT = 2, 9
 # A put under a token that was never issued, in a frame of two million bytes.
 LARGE = frame(PUT, number(9), b"\0", hashlib.sha256(bytes(2_000_000)).digest(), bytes(2_000_000))
 
@@ -37,6 +38,15 @@ def meanwhile(acts):
     return waits
 
 
+def is_refused(server):
+    """Whether nobody may connect to it any more."""
+    try:
+        server.connected().close()
+    except ConnectionRefusedError:
+        return True
+    return False
+
+
 def at_first(tag, acts):
     """Before the first request of this tag something is done."""
     done = []
@@ -58,7 +68,9 @@ def are_kept(yard, server, kept):
 def words_of_serving_at_once(yard):
     for words in (["0"], ["257"], ["-1"], ["some"], [""], ["18446744073709551616"]):
         same(told("serve", yard.root, "127.0.0.1:0", "--at-once", *words)[:3], "2||", words)
-    for at, words in enumerate((["--at-once", "1"], ["--at-once", "2"], ["--at-once", "256", "--idle", "9"])):
+    for words in (["-1"], ["some"], [""], ["18446744073709551616"]):
+        same(told("serve", yard.root, "127.0.0.1:0", "--memory", *words)[:3], "2||", words)
+    for at, words in enumerate((["--at-once", "1"], ["--at-once", "2", "--memory", "1"], ["--at-once", "256", "--idle", "9", "--memory", "18446744073709551615"])):
         yard.serves(TICKET, "0||", token(at + 1), *words)
     yard.serves(frame(10, number(9), b"\0", bytes(32)).hex(), "0||", refused(14), "--at-once", "2", "--append-only")
 
@@ -106,30 +118,51 @@ def who_makes_no_sense_ends_alone(yard):
 
 @in_store
 def the_server_ends_with_its_last_connection(yard):
-    """Two are taken, and a third isn't; the first stays for as long as it likes."""
+    """Two are taken, and a third is refused; the first stays for as long as it likes."""
     with Server(yard.root, "--at-once", 8, connections=2) as server:
         with server.connected() as stays:
             same(server.asked(TICKET), token(1))
-            with server.connected(bytes.fromhex(TICKET)) as third:
-                stays.sendall(bytes.fromhex(TICKET))
-                same(read_frame(stays).hex(), token(2))
-                stays.close()
-                same(rest_of(third), b"")
+            awaits(lambda: is_refused(server), "a third is refused")
+            stays.sendall(bytes.fromhex(TICKET))
+            same(read_frame(stays).hex(), token(2))
+            stays.close()
         same(server.end(), "0||")
 
 
 @in_store
 def no_more_are_served_than_were_to_be_at_once(yard):
-    """A third waits until one of two leaves."""
-    with Server(yard.root, "--at-once", 2, connections=3) as server:
+    """A third waits until one of two leaves, and the server says so, once."""
+    with Server(yard.root, "--at-once", 2, connections=4) as server:
         one, other, third = server.connected(), server.connected(), server.connected(bytes.fromhex(TICKET))
         for value, client in ((1, one), (2, other)):
             client.sendall(bytes.fromhex(TICKET))
             same(read_frame(client).hex(), token(value))
         one.close()
         same(read_frame(third).hex(), token(3))
+        fourth = server.connected(bytes.fromhex(TICKET))
         other.close()
+        same(read_frame(fourth).hex(), token(4))
         third.close()
+        fourth.close()
+        same(server.end(), "1||all places are taken\n")
+
+
+@in_store
+def all_places_may_be_taken_by_all_who_come(yard):
+    """Nobody waits, so nothing is said; nor is it where one is served after another."""
+    with Server(yard.root, "--at-once", 2, connections=3) as server:
+        one, other = server.connected(bytes.fromhex(TICKET)), server.connected(bytes.fromhex(TICKET))
+        for client in (one, other):
+            same(len(read_frame(client)), 37)
+            client.close()
+        same(server.asked(TICKET), token(3))
+        same(server.end(), "0||")
+    with Server(yard.root, connections=2) as server:
+        with server.paused():
+            clients = [server.connected(bytes.fromhex(TICKET)) for _ in range(2)]
+        for client in clients:
+            same(len(read_frame(client)), 37)
+            client.close()
         same(server.end(), "0||")
 
 
@@ -177,15 +210,107 @@ def a_backup_goes_on_while_clients_sleep(yard):
             client.close()
 
 
+MOST = frame(PUT, number(9), b"\0", bytes(32), bytes(25_000_000))
+
+
+class Trickles:
+    """Connections that send a byte of a frame of 25 MB at a time."""
+
+    def __init__(self, server, count):
+        self.clients = [server.connected(MOST[:1_900_000]) for _ in range(count)]
+        self.ends = threading.Event()
+        self.thread = threading.Thread(target=self.sends, daemon=True)
+        self.thread.start()
+
+    def sends(self):
+        while not self.ends.wait(0.2):
+            for client in self.clients:
+                with suppress(OSError):
+                    client.sendall(b"\0")
+
+    def stops(self):
+        self.ends.set()
+        self.thread.join(WAIT)
+        for client in self.clients:
+            client.close()
+
+
+@in_store
+def two_that_trickle_hold_nobody_up(yard):
+    """By default there is room for a large frame of each connection: a backup of such ends while two send a byte at a time."""
+    first, _ = folders(yard)
+    with Server(yard.root, "--at-once", 8, connections=99) as server:
+        trickles = Trickles(server, 2)
+        gives_back(server.address, first, yard.top / "to")
+        trickles.stops()
+
+
 @trial(is_long=True)
-def large_frames_that_stand_still_make_room():
-    """Two stop in large frames, so a backup of such waits; after a minute one of them is ended."""
-    with Yard(is_store=True) as yard, Server(yard.root, "--at-once", 8, connections=99) as server:
+def two_that_trickle_lose_their_room():
+    """There is room for two large frames: a backup waits for a minute, and then each that was too slow is ended."""
+    with Yard(is_store=True) as yard, Server(yard.root, "--at-once", 8, "--memory", 50, connections=4) as server:
         first, _ = folders(yard)
-        clients = [server.connected(LARGE[:1_900_000]) for _ in range(2)]
+        trickles = Trickles(server, 2)
+        awaits(lambda: memory(server, "VmRSS:") > 3_000, "both are read")
         name = stored(server.address, first)
+        trickles.stops()
         restores(server.address, name, yard.top / "to", entries(first))
-        for client in clients:
+        status, _, faults = server.end().split("|")
+        holds(status == "1" and set(faults.splitlines()) <= {"too slow", "malformed"} and "too slow" in faults, faults)
+
+
+@in_store
+def a_large_frame_alone_may_be_slow(yard):
+    """One alone is read, however little memory there is for it, and however it comes."""
+    with Server(yard.root, "--at-once", 4, "--memory", 1, connections=2) as server:
+        with server.connected(LARGE[:1_900_000]) as client:
+            same(server.asked(TICKET), token(1))
+            client.sendall(LARGE[1_900_000:-1])
+            client.sendall(LARGE[-1:])
+            same(read_frame(client).hex(), refused(2))
+        same(server.end(), "0||")
+
+
+def packs_put(server, done, counts, at):
+    """A machine that is busy: over each connection it takes a lock and puts two packs, until it is told to end."""
+    while not done.is_set():
+        with server.connected(frame(1)) as client:
+            value = read_frame(client)[-8:]
+            client.sendall(frame(LOCK, value, b"\0", number(5), b"\1a", sequence=2))
+            read_frame(client)
+            for sequence in (3, 4):
+                pack = os.urandom(2_000_000)
+                client.sendall(frame(PUT, value, b"\0", hashlib.sha256(pack).digest(), pack, sequence=sequence))
+                same(read_frame(client)[4], 130)
+                counts[at] += 1
+            client.sendall(frame(4, value, sequence=5))
+            read_frame(client)
+
+
+@in_store
+def busy_machines_have_equal_shares(yard):
+    """Six, at four places and at eight, with room for one large frame: the slowest has put at least half of the fastest's packs."""
+    for places in (4, 8):
+        with Server(yard.root, "--at-once", places, "--memory", 3, connections=10**6) as server:
+            done, counts = threading.Event(), [0] * 6
+            waits = [meanwhile(lambda at=at: packs_put(server, done, counts, at) or True) for at in range(6)]
+            awaits(lambda: sum(counts) >= 72, "72 packs")
+            done.set()
+            shares = list(counts)
+            for ends in waits:
+                ends()
+            holds(min(shares) * 2 >= max(shares), f"they had put {shares}, with {places} places")
+
+
+@in_store
+def vanished_clients_hold_nobody_up(yard):
+    """Two hundred say nothing any more, half of them in the middle of a frame; backups beside them end, and so do their restores."""
+    first, second = folders(yard)
+    with Server(yard.root, "--at-once", 256, connections=9999) as server:
+        vanished = [server.connected(LARGE[:100] if at % 2 else b"") for at in range(200)]
+        names = [waits() for waits in [meanwhile(lambda root=root: stored(server.address, root)) for root in (first, second)]]
+        are_kept(yard, server, zip(names, (first, second)))
+        for client in vanished:
             client.close()
 
 
@@ -230,13 +355,12 @@ def who_is_connected_and_idle_costs_little(yard):
 
 @in_store
 def many_large_frames_take_what_two_take(yard):
-    """Twelve send a frame of twenty-five million bytes each, and each is answered."""
-    most = frame(PUT, number(9), b"\0", bytes(32), bytes(25_000_000))
-    with Server(yard.root, "--at-once", 16, connections=13) as server:
+    """There is room for two. Twelve send a frame of twenty-five million bytes each, and each is answered."""
+    with Server(yard.root, "--at-once", 16, "--memory", 50, connections=13) as server:
         before = memory(server, "VmHWM:")
 
         def puts():
-            with server.connected(most) as client:
+            with server.connected(MOST) as client:
                 return read_frame(client)[4]
         same([waits() for waits in [meanwhile(puts) for _ in range(12)]], [134] * 12)
         most = memory(server, "VmHWM:")

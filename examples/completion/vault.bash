@@ -16,7 +16,7 @@ _vault() {
         play) options="" ;;
         loop) options="" ;;
         init) options="--min --max --bits --target --format" folder=1 ;;
-        serve) options="--connections --at-once --idle --append-only" folder=1 ;;
+        serve) options="--connections --at-once --memory --idle --append-only" folder=1 ;;
         backup) options="--idle --retry" folder=3 ;;
         snapshots) options="--idle --retry" ;;
         restore) options="--idle --retry" folder=3 ;;

@@ -13,6 +13,7 @@ complete -c vault -n __fish_use_subcommand -a serve -d 'Serves the store in a fo
 complete -c vault -n '__fish_seen_subcommand_from serve' -a '(__fish_complete_directories)'
 complete -c vault -n '__fish_seen_subcommand_from serve' -l connections -x -d 'How many connections are served in all, 1 or more'
 complete -c vault -n '__fish_seen_subcommand_from serve' -l at-once -x -d 'How many connections are open at once, 1 to 256; with 1 they are served one after another'
+complete -c vault -n '__fish_seen_subcommand_from serve' -l memory -x -d 'How much memory large requests take together that are being read; with 0 enough for one of each connection'
 complete -c vault -n '__fish_seen_subcommand_from serve' -l idle -x -d 'How long a connection may be idle; with 0 there is no limit'
 complete -c vault -n '__fish_seen_subcommand_from serve' -l append-only -d 'No object is deleted, whoever asks for it; locks are taken and removed as without'
 complete -c vault -n __fish_use_subcommand -a backup -d 'Stores what a folder holds as a snapshot'

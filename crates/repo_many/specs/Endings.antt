@@ -3,11 +3,12 @@ use Rattle.std.specs.Prelude.{◌≡◌, ◌⊎◌, [], ⊤, ℕ, true, List, sl
 use Rattle.repo_hall.specs.Guests.{IsNewGuest, out_of}
 use Rattle.repo_hall.specs.declared.guests.Guest.{Guest}
 use Rattle.repo_many.specs.declared.places.Place.{Place}
-use Rattle.repo_many.specs.declared.steps.Progress.{Progress}
+use Rattle.repo_many.specs.declared.progress.Progress.{Progress}
 
 -- a turn by which its connection ends
 abbrev pub IsOver : Progress → Type 0
 IsOver Progress.AtEnd = ⊤
+IsOver Progress.TooSlow = ⊤
 IsOver (Progress.Failed error) = ⊤
 IsOver _ = ⊥
 

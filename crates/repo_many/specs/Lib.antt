@@ -1,1 +1,4 @@
+pub mod Arriving
 pub mod Endings
+pub mod Rooms
+pub mod Times

@@ -5,14 +5,14 @@ ghost use Rattle.repo_hall.specs.Guests.{IsNewGuest};
 ghost use Rattle.repo_hall.specs.Halls.{HallLeads, HallLeavesStore, LeavesOthers, StaysAt};
 ghost use Rattle.repo_many.specs.Endings.{GuestIs, IsDone, IsFreed, IsOver};
 ghost use Rattle.repo_many.specs.declared.places.Place.{Place};
-ghost use Rattle.repo_many.specs.declared.steps.Progress.{Progress};
+ghost use Rattle.repo_many.specs.declared.progress.Progress.{Progress};
 ghost use Rattle.repo_many.specs.declared.times.Served.{Served};
 ghost use Rattle.repo_store.specs.declared.serving.ServeError.{ServeError};
 
-use crate::large_frames::LargeFrames;
+use crate::large_frames::{HEAD, LARGE, LargeFrame, LargeFrames, Room};
 use crate::places::{Place, leave, left_by, named_at};
+use crate::progress::Progress;
 use crate::sockets::{Timing, Turn};
-use crate::steps::Progress;
 use crate::times::Tally;
 use repo_hall::Hall;
 use repo_store::{ServeError, Shelf};
@@ -25,6 +25,7 @@ pub struct Connections<T: Drop> {
     pub hall: Hall,
     /// The sockets, at the places of their guests.
     pub places: Vec<Place<T>>,
+    /// Which of them have room for a large frame, or wait for it.
     pub large: LargeFrames,
     /// Room for a piece of what is read.
     pub piece: Vec<u8>,
@@ -61,9 +62,10 @@ impl<T: Read + Write + Drop> Connections<T> {
     {
         let renewed = self.hall.renew(place);
         leave(&mut self.places, place, left_by(renewed.is_ok()));
+        self.large.leave(place);
         tally.moved = true;
         if renewed.is_err() {
-            tally.tell(faults, ServeError::Limit);
+            tally.tell(faults, &ServeError::Limit);
         }
     }
 
@@ -91,10 +93,55 @@ impl<T: Read + Write + Drop> Connections<T> {
             Progress::Barred => {}
             Progress::Moved => tally.moved = true,
             Progress::AtEnd => self.close_at(place, tally, faults),
-            Progress::Failed(error) => {
-                tally.tell(faults, error);
+            Progress::TooSlow => {
+                tally.tell(faults, &"too slow");
                 self.close_at(place, tally, faults)
             }
+            Progress::Failed(error) => {
+                tally.tell(faults, &error);
+                self.close_at(place, tally, faults)
+            }
+        }
+    }
+
+    /// What the connection at a place may read in its turn. If it is within a large frame, that goes on with its minute, and waits
+    /// for room behind all others, unless it has some.
+    fn room_at(&mut self, place: usize, time: u64) -> Room
+        requires { place < length self.old.hall.guests.items }
+        ensures hall { self.new.hall ≡ self.old.hall }
+        ensures places { self.new.places ≡ self.old.places }
+    {
+        let named = named_at(self.places.as_slice(), place);
+        if named <= LARGE || self.hall.held(place) < HEAD {
+            return Room::Small;
+        }
+        if self.large.pace_at(place, time) {
+            return Room::TooSlow;
+        }
+        let frame = LargeFrame {
+            place,
+            bytes: HEAD as u64 + u64::from(named),
+            since: time,
+            came: 0,
+        };
+        match self.large.room_for(frame) {
+            Ok(room) => room,
+            Err(_) => Room::NoMemory,
+        }
+    }
+
+    /// Notes what came of the large frame at a place, whose guest held so many bytes before its turn: one that was answered gives up
+    /// its room.
+    fn note_large(&mut self, place: usize, held: usize)
+        requires { place < length self.old.hall.guests.items }
+        ensures hall { self.new.hall ≡ self.old.hall }
+        ensures places { self.new.places ≡ self.old.places }
+    {
+        let now = self.hall.held(place);
+        if now < HEAD {
+            self.large.leave(place);
+        } else {
+            self.large.note(place, now.saturating_sub(held) as u64);
         }
     }
 
@@ -113,7 +160,9 @@ impl<T: Read + Write + Drop> Connections<T> {
         ensures others { LeavesOthers self.old.hall.guests.items turn.place self.new.hall.guests.items }
         ensures silent { tally.new.served ≡ Served.Well → (tally.old.served ≡ Served.Well) × (faults.new ≡ faults.old) }
     {
+        let held = self.hall.held(turn.place);
         let progress = self.turn_at(turn, shelf);
+        self.note_large(turn.place, held);
         self.settle(turn.place, progress, tally, faults)
     }
 
@@ -129,10 +178,9 @@ impl<T: Read + Write + Drop> Connections<T> {
         ensures honest { S.honest shelf.old → S.honest shelf.new }
         ensures silent { tally.new.served ≡ Served.Well → (tally.old.served ≡ Served.Well) × (faults.new ≡ faults.old) }
     {
-        self.large.begin_round(&self.hall);
+        self.large.begin_round();
         for place in 0..self.hall.places() {
-            let named = named_at(self.places.as_slice(), place);
-            let room = self.large.room_for(&self.hall, place, named);
+            let room = self.room_at(place, timing.time);
             let turn = Turn {
                 place,
                 room,

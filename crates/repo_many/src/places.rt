@@ -69,3 +69,13 @@ pub fn leave<T: Drop>(places: &mut Vec<Place<T>>, place: usize, left: Place<T>)
     }
     places[place] = left;
 }
+
+/// This connection takes a place, if there is a connection and the place.
+pub fn seat<T: Drop>(places: &mut Vec<Place<T>>, place: usize, socket: Option<Socket<T>>) {
+    let Some(socket) = socket else {
+        return;
+    };
+    if let Some(free) = places.get_mut(place) {
+        *free = Place::Taken(socket);
+    }
+}

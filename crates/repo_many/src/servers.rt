@@ -6,16 +6,19 @@ ghost use Rattle.repo_hall.specs.Halls.{Hosted, Stands, HallLeads};
 ghost use Rattle.repo_hall.specs.Happenings.{AreInTurn, Log};
 ghost use Rattle.repo_many.specs.declared.times.Served.{Served};
 
-use crate::arrivals::{Door, accept, watch};
+use crate::arrivals::{Arrival, accept, watch, watch_anew};
 use crate::connections::Connections;
+use crate::doors::{Door, Look};
+use crate::idling::{shorter, wait_for};
 use crate::large_frames::LargeFrames;
-use crate::places::{Place, is_free, is_in_use, is_taken};
+use crate::manners::{Manner, limit_of};
+use crate::places::{Place, is_free, is_in_use, is_taken, seat};
 use crate::sockets::Timing;
-use crate::times::{Served, Tally, Watch};
-use crate::waits::{LISTENER, mark_ready, shorter, wait_for};
+use crate::times::{Served, Tally, Watch, nanos_of};
+use crate::waits::{LISTENER, earliest, mark_ready};
 use mio::{Events, Interest, Poll};
 use repo_hall::{Hall, HallError};
-use repo_store::{Shelf, room};
+use repo_store::{ServeError, Shelf, room};
 use std::alloc::{AllocGlobal, Global};
 use std::io;
 use std::io::{ErrorKind, Read, Write};
@@ -23,22 +26,12 @@ use std::net::{Net, OpenListener, OpenStream};
 use std::os::fd::AsRawFd;
 use std::time::{Clock, Duration, Instant};
 
-/// How connections are served.
-#[derive(Clone, Copy, Debug)]
-pub struct Manner {
-    /// How many are taken in all.
-    pub connections: u64,
-    /// How many are served at once, at most.
-    pub at_once: usize,
-    /// A connection on which nothing moves for longer ends; `None`: none does. The time in which requests are
-    /// answered that take long doesn't count.
-    pub idle: Option<Duration>,
-}
-
 /// A server of a listener's connections.
 #[derive(Drop)]
-struct Server<T: Drop> {
+struct Server<T: Drop, L: Drop> {
     manner: Manner,
+    /// The listener, until as many connections were taken as were to be.
+    listener: Option<L>,
     poll: Poll,
     events: Events,
     connections: Connections<T>,
@@ -69,12 +62,12 @@ fn free_places<T: Drop>(alloc: Global, count: usize) -> io::Result<Vec<Place<T>>
 }
 
 /// A server of a listener, which none waits for any more, with this hall.
-fn server_of<R: Net + Clock + AllocGlobal, L: OpenListener + AsRawFd>(
+fn server_of<R: Net + Clock + AllocGlobal, L: OpenListener + AsRawFd + Drop>(
     rt: &R,
-    listener: &L,
+    listener: L,
     manner: Manner,
     hall: Hall,
-) -> io::Result<Server<L::Stream>>
+) -> io::Result<Server<L::Stream, L>>
 where
     L::Stream: Read + Write + OpenStream + AsRawFd,
     ensures hall { IfOk result (λ server. server.connections.hall ≡ hall) }
@@ -82,16 +75,17 @@ where
 {
     listener.set_nonblocking(true)?;
     let poll = Poll::new(rt)?;
-    watch(&poll, listener, LISTENER, Interest::READABLE)?;
+    watch(&poll, &listener, LISTENER, Interest::READABLE)?;
     let events = Events::with_capacity(rt.alloc(), 256)?;
     let connections = Connections {
         hall,
         places: free_places(rt.alloc(), manner.at_once)?,
-        large: LargeFrames::new(),
+        large: LargeFrames::new(rt.alloc(), limit_of(manner)),
         piece: room(rt.alloc())?,
     };
     Ok(Server {
         manner,
+        listener: Some(listener),
         poll,
         events,
         connections,
@@ -101,7 +95,7 @@ where
     })
 }
 
-impl<T: Drop> Server<T> {
+impl<T: Drop, L: Drop> Server<T, L> {
     /// Whether more connections may be taken.
     fn is_open(&self) -> bool {
         let is_left = self.connections.places.as_slice().iter().any(is_in_use);
@@ -117,9 +111,23 @@ impl<T: Drop> Server<T> {
     fn timing(&self) -> Timing {
         Timing {
             time: self.watch.time,
-            idle: self.manner.idle,
-            wanted: self.connections.large.wanted,
+            idle: match self.manner.idle {
+                Some(idle) => Some(nanos_of(idle)),
+                None => None,
+            },
         }
+    }
+
+    /// How long the next wait may be; `None`: for ever.
+    fn pause(&self) -> Option<u64> {
+        if self.tally.moved {
+            return Some(0);
+        }
+        let timing = self.timing();
+        let earliest = earliest(self.connections.places.as_slice());
+        let is_wanted = self.connections.large.is_wanted();
+        let wait = wait_for(timing.idle, timing.time, earliest, is_wanted);
+        shorter(wait, self.door.pause(timing.time))
     }
 
     /// Waits until one comes, or a connection is ready, or one was idle for too long; after a round in which
@@ -128,12 +136,10 @@ impl<T: Drop> Server<T> {
         ensures hall { self.new.connections.hall ≡ self.old.connections.hall }
         ensures tally { self.new.tally ≡ self.old.tally }
     {
-        let timing = self.timing();
-        let mut wait = wait_for(self.connections.places.as_slice(), timing);
-        wait = shorter(wait, self.door.pause(timing.time));
-        if self.tally.moved {
-            wait = Some(Duration::ZERO);
-        }
+        let wait = match self.pause() {
+            Some(nanos) => Some(Duration::from_nanos(nanos)),
+            None => None,
+        };
         self.poll.poll(&mut self.events, wait)?;
         if mark_ready(&self.events, &mut self.connections.places) {
             self.door.ready = true;
@@ -142,33 +148,83 @@ impl<T: Drop> Server<T> {
     }
 }
 
-impl<T: Read + Write + OpenStream + AsRawFd + Drop> Server<T> {
-    /// Takes a connection, where more may be taken, one waits and there is a place for it.
-    fn welcome<L: OpenListener<Stream = T>, F: Write>(&mut self, listener: &L, faults: &mut F)
+impl<
+    T: Read + Write + OpenStream + AsRawFd + Drop,
+    L: OpenListener<Stream = T> + AsRawFd + Drop,
+> Server<T, L> {
+    /// Reports that all places are taken, if somebody waits for one, nothing moved, and it wasn't reported before. With one place
+    /// all others wait as they are to.
+    fn tell_full<F: Write>(&mut self, faults: &mut F)
+        ensures connections { self.new.connections ≡ self.old.connections }
+        ensures silent { self.new.tally.served ≡ Served.Well → (self.old.tally.served ≡ Served.Well) × (faults.new ≡ faults.old) }
+    {
+        let is_waited_for = self.is_open() && self.door.ready && !self.tally.moved;
+        if !is_waited_for || self.door.told || self.manner.at_once <= 1 {
+            return;
+        }
+        if self.connections.places.as_slice().iter().any(is_free) {
+            return;
+        }
+        self.door.told = true;
+        self.tally.tell(faults, &"all places are taken");
+    }
+
+    /// The listener is closed once no more connections are to be taken. Once all places are taken the poll tells anew whether
+    /// somebody waits.
+    fn rest(&mut self)
+        ensures hall { self.new.connections.hall ≡ self.old.connections.hall }
+        ensures tally { self.new.tally ≡ self.old.tally }
+    {
+        if self.door.taken >= self.manner.connections {
+            self.listener = None;
+        }
+        if self.connections.places.as_slice().iter().any(is_free) {
+            return;
+        }
+        if let Some(listener) = &self.listener {
+            let told = watch_anew(&self.poll, listener, LISTENER, Interest::READABLE);
+            self.door.ready = told.is_err();
+        }
+    }
+
+    /// Takes a connection to a free place, if one waits.
+    fn take_to<F: Write>(&mut self, place: usize, faults: &mut F)
         ensures hall { self.new.connections.hall ≡ self.old.connections.hall }
         ensures silent { self.new.tally.served ≡ Served.Well → (self.old.tally.served ≡ Served.Well) × (faults.new ≡ faults.old) }
     {
         let time = self.watch.time;
-        if !self.is_open() || !self.door.is_time(time) {
+        let Some(listener) = &self.listener else {
+            return;
+        };
+        let Arrival { look, socket } = accept(&self.poll, listener, place, time);
+        if self.door.note(look, time) {
+            self.tally.tell(faults, &ServeError::Read);
+        }
+        seat(&mut self.connections.places, place, socket);
+        if look == Look::Came || look == Look::Lost {
+            self.tally.moved = true;
+            self.rest();
+        }
+    }
+
+    /// Takes a connection, if more may be taken, one waits and there is a place for it.
+    fn welcome<F: Write>(&mut self, faults: &mut F)
+        ensures hall { self.new.connections.hall ≡ self.old.connections.hall }
+        ensures silent { self.new.tally.served ≡ Served.Well → (self.old.tally.served ≡ Served.Well) × (faults.new ≡ faults.old) }
+    {
+        if !self.is_open() || !self.door.is_time(self.watch.time) {
             return;
         }
         let places = self.connections.places.as_slice();
-        let Some(place) = places.iter().position(is_free) else {
-            return;
-        };
-        let arrival = accept(&self.poll, listener, place, time);
-        if let Some(socket) = self.door.note(arrival, time, &mut self.tally, faults) {
-            if let Some(free) = self.connections.places.get_mut(place) {
-                *free = Place::Taken(socket);
-            }
+        if let Some(place) = places.iter().position(is_free) {
+            self.take_to(place, faults);
         }
     }
 
     /// Serves until as many connections came as were to come, and the last one left.
-    fn serve<C: Clock, L: OpenListener<Stream = T>, S: Shelf, F: Write>(
+    fn serve<C: Clock, S: Shelf, F: Write>(
         &mut self,
         clock: &C,
-        listener: &L,
         shelf: &mut S,
         faults: &mut F,
     ) -> io::Result<()>
@@ -182,10 +238,11 @@ impl<T: Read + Write + OpenStream + AsRawFd + Drop> Server<T> {
             if self.is_over() {
                 return Ok(());
             }
-            self.welcome(listener, faults);
+            self.welcome(faults);
             let timing = self.timing();
             self.connections
                 .round(timing, shelf, &mut self.tally, faults);
+            self.tell_full(faults);
             self.wait()?;
         }
         Ok(())
@@ -197,9 +254,11 @@ impl<T: Read + Write + OpenStream + AsRawFd + Drop> Server<T> {
 ///
 /// Where one does, the error's text is told, and the others go on: `read failed` and `write failed` where its
 /// socket fails, or it was idle for too long; `malformed` where it brings what is no request, or ends inside
-/// one; `out of memory`. A connection that can't be taken is told as `read failed` and doesn't count; it is
-/// tried again after a tenth of a second, and told no more until one was taken. Once there is no number for
-/// a further guest the text is `limit`, and the place is served no more. It fails where it can't wait, or
+/// one; `too slow` where its large frame came so while others waited for room; `out of memory`. A connection
+/// that can't be taken is told as `read failed` and doesn't count; it is tried again after a tenth of a second,
+/// and told no more until one was taken. If somebody waits while all places are taken, of more than one, that is
+/// told once. Once there is no number for a further guest the text is `limit`, and the place is served no more.
+/// The listener is closed once as many connections were taken as were to be. It fails where it can't wait, or
 /// there is no memory to begin.
 ///
 /// Whatever the connections bring, what was answered to all of them, in that order, is one run of the store
@@ -207,13 +266,12 @@ impl<T: Read + Write + OpenStream + AsRawFd + Drop> Server<T> {
 /// served in turn; that each turn keeps it, and touches no guest but the one at its place, are clauses of the
 /// rounds and of the turns. No clause says which connections were taken, since a listener tells no contract what
 /// it did, nor that a place's socket stays that of its guest.
-pub fn serve_many<R: Net + Clock + AllocGlobal, L: OpenListener + AsRawFd, S: Shelf, F: Write>(
-    rt: &R,
-    listener: &L,
-    manner: Manner,
-    shelf: &mut S,
-    faults: &mut F,
-) -> io::Result<Served>
+pub fn serve_many<
+    R: Net + Clock + AllocGlobal,
+    L: OpenListener + AsRawFd + Drop,
+    S: Shelf,
+    F: Write,
+>(rt: &R, listener: L, manner: Manner, shelf: &mut S, faults: &mut F) -> io::Result<Served>
 where
     L::Stream: Read + Write + OpenStream + AsRawFd,
     ensures hosted { S.honest shelf.old → (log : Log) × Hosted (S.store shelf.old) (S.failed shelf.old) log (S.store shelf.new) (S.failed shelf.new) × AreInTurn log }
@@ -224,6 +282,6 @@ where
         return Err(io::Error::from(ErrorKind::OutOfMemory));
     };
     let mut server = server_of(rt, listener, manner, hall)?;
-    server.serve(rt, listener, shelf, faults)?;
+    server.serve(rt, shelf, faults)?;
     Ok(server.tally.served)
 }

@@ -5,27 +5,23 @@ ghost use Rattle.repo_hall.specs.Guests.{IsAwaited};
 ghost use Rattle.repo_hall.specs.Halls.{HallLeads, HallLeavesStore, StaysAt};
 ghost use Rattle.repo_hall.specs.declared.guests.Guest.{Guest};
 ghost use Rattle.repo_many.specs.Endings.{GuestIs, IsDone};
-ghost use Rattle.repo_many.specs.declared.steps.Progress.{Progress};
+ghost use Rattle.repo_many.specs.declared.progress.Progress.{Progress};
 
+use crate::idling::{endure, is_idle};
 use crate::large_frames::{HEAD, Room};
-use crate::steps::{Progress, give, reply, take};
+use crate::progress::Progress;
+use crate::steps::{give, reply, take};
 use repo_hall::Hall;
 use repo_store::{ServeError, Shelf};
 use std::io::{Read, Write};
-use std::time::Duration;
 
-/// Where others wait to read large frames, a connection that stands still in one ends after so many seconds.
-const PATIENCE: u64 = 60;
-
-/// What a round knows of the time.
+/// What a round knows of the time, in nanoseconds.
 #[derive(Clone, Copy, Debug)]
 pub struct Timing {
     /// The time that counted so far.
-    pub time: Duration,
-    /// A connection that is idle for longer ends; `None`: none does.
-    pub idle: Option<Duration>,
-    /// Some wait to read large frames.
-    pub wanted: bool,
+    pub time: u64,
+    /// A connection that is idle for so long ends; `None`: none does.
+    pub idle: Option<u64>,
 }
 
 /// A turn of the connection at a place.
@@ -42,25 +38,13 @@ pub struct Turn {
 pub struct Socket<T: Drop> {
     pub stream: T,
     /// When it moved last.
-    pub since: Duration,
+    pub since: u64,
     /// It may be read from or written to, as far as is known.
     pub ready: bool,
     /// Its input ended.
     pub at_end: bool,
     /// The length of the frame that is being read, as far as the bytes came that name it.
     pub named: u32,
-}
-
-/// How long a connection may be idle that reads so.
-fn patience(timing: Timing, room: Room) -> Option<Duration> {
-    if !timing.wanted || room != Room::Large {
-        return timing.idle;
-    }
-    let patience = Duration::from_secs(PATIENCE);
-    match timing.idle {
-        Some(idle) if idle < patience => Some(idle),
-        _ => Some(patience),
-    }
 }
 
 impl<T: Read + Write + Drop> Socket<T> {
@@ -147,25 +131,17 @@ impl<T: Read + Write + Drop> Socket<T> {
         }
     }
 
-    /// What becomes of a connection that stands still: it fails where it does for too long.
-    fn endure(&mut self, hall: &Hall, turn: Turn) -> Progress
+    /// It stands still: it isn't ready, and fails if it was idle for too long.
+    fn stand(&mut self, hall: &Hall, turn: Turn) -> Progress
         requires { turn.place < length hall.now.guests.items }
         ensures { result ≢ Progress.AtEnd }
     {
         self.ready = false;
-        let idle = turn.timing.time.saturating_sub(self.since);
-        match patience(turn.timing, turn.room) {
-            Some(most) if idle >= most => {
-                if hall.out(turn.place).is_empty() {
-                    return Progress::Failed(ServeError::Read);
-                }
-                Progress::Failed(ServeError::Write)
-            }
-            _ => Progress::Still,
-        }
+        let is_idle = is_idle(turn.timing.idle, turn.timing.time, self.since);
+        endure(is_idle, !hall.out(turn.place).is_empty())
     }
 
-    /// One turn. A connection fails that is idle for too long; one that is barred isn't idle.
+    /// One turn. A connection fails that is idle for too long, or that lost its room; one that waits for room isn't idle.
     pub fn turn<S: Shelf>(
         &mut self,
         hall: &mut Hall,
@@ -180,22 +156,16 @@ impl<T: Read + Write + Drop> Socket<T> {
         ensures places { length hall.new.guests.items ≡ length hall.old.guests.items }
         ensures guests { StaysAt hall.old turn.place hall.new }
     {
+        match turn.room {
+            Room::TooSlow => return Progress::TooSlow,
+            Room::NoMemory => return Progress::Failed(ServeError::Memory),
+            _ => {}
+        }
         let progress = self.advance(hall, turn, piece, shelf);
         if progress == Progress::Still {
-            return self.endure(hall, turn);
+            return self.stand(hall, turn);
         }
         self.since = turn.timing.time;
         progress
-    }
-}
-
-impl<T: Drop> Socket<T> {
-    /// How long it may stand still yet, where nobody waits to read large frames.
-    pub fn time_left(&self, timing: Timing) -> Option<Duration> {
-        let idle = timing.time.saturating_sub(self.since);
-        match timing.idle {
-            Some(most) => Some(most.saturating_sub(idle)),
-            None => None,
-        }
     }
 }

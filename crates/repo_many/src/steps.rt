@@ -7,26 +7,12 @@ ghost use Rattle.repo_hall.specs.Halls.{HallLeads, HallLeavesStore, HappensAt, N
 ghost use Rattle.repo_hall.specs.Happenings.{Brought, Given};
 ghost use Rattle.repo_hall.specs.declared.guests.Guest.{Guest};
 ghost use Rattle.repo_store.specs.declared.serving.ServeError.{ServeError};
-ghost use Rattle.repo_many.specs.declared.steps.Progress.{Progress};
+ghost use Rattle.repo_many.specs.declared.progress.Progress.{Progress};
 
+use crate::progress::Progress;
 use repo_hall::Hall;
 use repo_store::{ServeError, Shelf};
 use std::io::{ErrorKind, Read, Write};
-
-/// What a turn came to.
-#[derive(Clone, Copy, Debug, PartialEq)]
-pub enum Progress {
-    /// Nothing can be done before the socket is ready.
-    Still,
-    /// It would have to read of a large frame, and others do.
-    Barred,
-    /// It went on.
-    Moved,
-    /// Its input ended, and all that it brought is done; or it is answered no more.
-    AtEnd,
-    /// It failed.
-    Failed(ServeError),
-}
 
 /// Gives the guest at a place some of what it is to be given, by one write at most, which is of nothing else. Just what was written
 /// counts as given.

@@ -1,5 +1,5 @@
 -- What serving connections one after another gives.
-use Rattle.std.specs.Prelude.{◌≡◌, ◌↔◌, ◌∷◌, [], ℕ, Bool, true, false, List, All, length, Option, Some, None, Result, Err, IsOk}
+use Rattle.std.specs.Prelude.{◌≡◌, ◌↔◌, ◌∷◌, ◌*◌, ◌^◌, ◌-◌, [], ℕ, zero, suc, min, Bool, true, false, List, All, length, Option, Some, None, Result, Err, IsOk}
 use Rattle.repo_hall.specs.Halls.{Hosted}
 use Rattle.repo_hall.specs.Happenings.{AreInTurn, Log}
 use Rattle.repo_store.specs.Channels.{ServesChannel}
@@ -57,3 +57,8 @@ ServesAtOnce from failures to count = (log : Log) × Hosted from failures log to
 abbrev pub as_served : Bool → Store → Store
 as_served true store = appending store
 as_served false store = store
+
+-- how many bytes so many mebibytes are, if there are any
+abbrev pub memory_of : ℕ → Option ℕ
+memory_of zero = None
+memory_of (suc n) = Some (min (suc n * 1048576) (2 ^ 64 - 1))

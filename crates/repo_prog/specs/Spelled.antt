@@ -66,7 +66,7 @@ init_rules = needed_rule (codes "DIR") ∷ number_rule (codes "min") (codes "524
 -- the words of `serve`
 abbrev pub serve_rules : List Rule
 serve_rules = needed_rule (codes "DIR") ∷ needed_rule (codes "ADDR") ∷ number_rule (codes "connections") (codes "1") ∷ number_rule (codes "at-once") (codes "1")
-    ∷ number_rule (codes "idle") (codes "21600") ∷ flag_rule (codes "append-only") ∷ []
+    ∷ number_rule (codes "memory") (codes "0") ∷ number_rule (codes "idle") (codes "21600") ∷ flag_rule (codes "append-only") ∷ []
 
 -- the words of each command that goes to a server: where it is, and how long a connection may be idle
 abbrev pub server_rules : List Rule

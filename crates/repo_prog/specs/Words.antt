@@ -83,6 +83,7 @@ AskFor words (Errand.Locks (LockErrand.Remove all)) = IsFlag words (codes "remov
 pub record IsServingOf (words : ArgMatches) (serving : Serving) : Type 0 where
   pub connections : IsNumber words (codes "connections") serving.connections
   pub at_once : IsNumber words (codes "at-once") serving.at_once
+  pub memory : IsNumber words (codes "memory") serving.memory
   pub idle : IsIdleOf words serving.idle
   pub append_only : IsFlag words (codes "append-only") serving.append_only
 

@@ -25,6 +25,10 @@ ended, and the next one is served. With 0 none is. If a connection can't be take
 With --at-once several connections are open, 256 at most, and one request of each is answered in turn; a slow or a
 silent one holds nobody up. Time in which another's long request is answered counts against no connection.
 
+With --memory requests of more than 1 MiB wait in a queue until there is room for them; one alone is always read.
+While others wait, one that comes slower than 64 KiB a second over a minute is ended, with `too slow`. By default
+none waits. If somebody waits for a connection while all are taken, `all places are taken` is written once.
+
 With --append-only no object is ever deleted, whoever asks: a forget or a prune that has something to delete
 ends with refused 14.
 

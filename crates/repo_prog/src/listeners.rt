@@ -1,6 +1,6 @@
 //! Listeners, which give one connection after another.
 
-ghost use Rattle.std.specs.Prelude.{◌≡◌, Bool, false, Option};
+ghost use Rattle.std.specs.Prelude.{◌≡◌, Bool, false, Option, Some};
 
 use crate::status::tell;
 use repo_dial::{Pair, pair_of};
@@ -28,6 +28,9 @@ pub trait Listen {
     /// Both ends of a connection.
     type Ends: Channel + Drop;
 
+    /// What the connections come from, for who waits for several at once.
+    type Listener;
+
     /// Where waiting for the next connection leads, whether taking one failed before, and what was had: `None` if it can't be served.
     ghost accepts: { Self → Bool → Option Self.Ends → Self → Type 0 };
 
@@ -42,6 +45,9 @@ pub trait Listen {
     /// Takes a connection back over which nothing more is said or heard.
     fn hang_up(&mut self, connection: Self::Ends)
         ensures { leaves self.old connection self.new };
+
+    /// Gives away what the connections come from, if it is still there.
+    fn give_up(&mut self) -> Option<Self::Listener>;
 }
 
 /// Takes the next connection of a listener, and returns whether taking one failed before. If it fails, as without free descriptors,
@@ -76,26 +82,27 @@ fn take<C: Clock, L: OpenListener, F: Write>(
 /// The connections that arrive at a bound listener, each of which ends once it is idle for so long. A connection that was taken
 /// can't be served if no second handle of it can be made.
 #[derive(Drop)]
-pub struct Arrivals<'a, C, L> {
+pub struct Arrivals<'a, C, L: Drop> {
     clock: &'a C,
-    listener: &'a L,
+    /// The listener, unless it was given away.
+    listener: Option<L>,
     idle: Option<Duration>,
 }
 
-impl<'a, C, L> Arrivals<'a, C, L> {
+impl<'a, C, L: Drop> Arrivals<'a, C, L> {
     /// Those of this listener. With a time for `idle` each read and each write of one fails that waits for longer.
-    pub fn at(clock: &'a C, listener: &'a L, idle: Option<Duration>) -> Arrivals<'a, C, L>
-        ensures { result ≡ record { clock = clock.entry; listener = listener.entry; idle = idle } }
+    pub fn at(clock: &'a C, listener: L, idle: Option<Duration>) -> Arrivals<'a, C, L>
+        ensures { result ≡ record { clock = clock.entry; listener = Some listener; idle = idle } }
     {
         Arrivals {
             clock,
-            listener,
+            listener: Some(listener),
             idle,
         }
     }
 }
 
-impl<C: Clock, L: OpenListener> Listen for Arrivals<'_, C, L>
+impl<C: Clock, L: OpenListener + Drop> Listen for Arrivals<'_, C, L>
 where
     L::Stream: Read + Write + OpenStream,
 {
@@ -103,12 +110,20 @@ where
 
     type Ends = Pair<L::Stream, L::Stream>;
 
+    type Listener = L;
+
     ghost accepts = { λ old refused had new. new ≡ old };
 
     ghost leaves = { λ old left new. new ≡ old };
 
     fn accept<F: Write>(&mut self, faults: &mut F) -> Arrival<Pair<L::Stream, L::Stream>> {
-        let Arrival { ends, refused } = take(self.clock, self.listener, faults);
+        let Some(listener) = &self.listener else {
+            return Arrival {
+                ends: None,
+                refused: false,
+            };
+        };
+        let Arrival { ends, refused } = take(self.clock, listener, faults);
         Arrival {
             ends: match ends {
                 Some(stream) => pair_of(stream, self.idle),
@@ -120,4 +135,8 @@ where
 
     /// The connection is closed.
     fn hang_up(&mut self, _connection: Pair<L::Stream, L::Stream>) {}
+
+    fn give_up(&mut self) -> Option<L> {
+        self.listener.take()
+    }
 }

@@ -40,6 +40,9 @@ pub const CONNECTIONS: &str = "How many connections are served in all, 1 or more
 /// `--at-once`.
 pub const AT_ONCE: &str =
     "How many connections are open at once, 1 to 256; with 1 they are served one after another";
+/// `--memory`.
+pub const MEMORY: &str =
+    "How much memory large requests take together that are being read; with 0 enough for one of each connection";
 /// `--idle`.
 pub const IDLE: &str = "How long a connection may be idle; with 0 there is no limit";
 /// `--append-only`.

@@ -3,7 +3,7 @@
 ghost use Rattle.std.specs.Prelude.{◌≡◌, ◌≤◌, ◌<◌, ◌↔◌, ◌⊎◌, ◌++◌, Option, true, false, IfOk, IsOk, OnOk, OnErr, string_bytes};
 ghost use Rattle.std.specs.Io.KnownBytes.{Appends};
 ghost use Rattle.repo_prog.specs.Commands.{IsEnd, Listens, ListensAtMost, ListensBy, address_line, listening_line};
-ghost use Rattle.repo_prog.specs.Serving.{IsServed, ServesAtOnce, ServesInTurn, Visit, as_served, ending};
+ghost use Rattle.repo_prog.specs.Serving.{IsServed, ServesAtOnce, ServesInTurn, Visit, as_served, ending, memory_of};
 ghost use Rattle.repo_prog.specs.declared.status.Status.{Status};
 ghost use Rattle.repo_store.specs.AppendOnly.{KeepsObjects, OnlyAppends};
 ghost use Rattle.repo_store.specs.Output.{AppendsPart};
@@ -101,17 +101,26 @@ pub fn serve_connections<L: Listen, S: Shelf, F: Write>(
     status
 }
 
-/// A listener that is bound, and the machine that it is bound at.
-#[derive(Drop)]
-struct Bound<'a, R, L> {
-    rt: &'a R,
-    listener: &'a L,
+/// How many bytes so many mebibytes are. `None` if they are 0.
+fn memory_of(mebibytes: u64) -> Option<u64>
+    ensures { result ≡ memory_of mebibytes }
+{
+    if mebibytes == 0 {
+        return None;
+    }
+    Some(mebibytes.saturating_mul(1_048_576))
 }
 
 /// Serves so many connections of a bound listener at once, one request of each in turn. A listener that can't be
 /// waited for is told as `wait failed`.
-fn serve_at_once<R: Net + Clock + AllocGlobal, L: OpenListener + AsRawFd, S: Shelf, F: Write>(
-    bound: &Bound<'_, R, L>,
+fn serve_at_once<
+    R: Net + Clock + AllocGlobal,
+    L: OpenListener + AsRawFd + Drop,
+    S: Shelf,
+    F: Write,
+>(
+    rt: &R,
+    listener: L,
     serving: Serving,
     shelf: &mut S,
     faults: &mut F,
@@ -127,9 +136,10 @@ where
     let manner = Manner {
         connections: serving.connections,
         at_once: serving.at_once,
+        memory: memory_of(serving.memory),
         idle: serving.idle,
     };
-    match serve_many(bound.rt, bound.listener, manner, shelf, faults) {
+    match serve_many(rt, listener, manner, shelf, faults) {
         Ok(Served::Well) => Status::Done,
         Ok(Served::WithErrors) => Status::Failed,
         Err(_) => failed(faults, &"wait failed"),
@@ -140,12 +150,12 @@ where
 /// has them.
 fn serve_listener<
     R: Net + Clock + AllocGlobal,
-    L: OpenListener + AsRawFd,
-    A: Listen,
+    L: OpenListener + AsRawFd + Drop,
+    A: Listen<Listener = L>,
     S: Shelf,
     F: Write,
 >(
-    bound: &Bound<'_, R, L>,
+    rt: &R,
     arrivals: &mut A,
     serving: Serving,
     shelf: &mut S,
@@ -163,9 +173,12 @@ where
     ensures status { IsEnd result }
 {
     if serving.at_once > 1 {
-        return serve_at_once(bound, serving, shelf, faults);
+        return match arrivals.give_up() {
+            Some(listener) => serve_at_once(rt, listener, serving, shelf, faults),
+            None => failed(faults, &"wait failed"),
+        };
     }
-    let alloc = bound.rt.alloc();
+    let alloc = rt.alloc();
     serve_connections(alloc, arrivals, serving.connections, shelf, faults)
 }
 
@@ -175,12 +188,12 @@ where
 /// same bytes, whatever was asked.
 fn serve_shelf<
     R: Net + Clock + AllocGlobal,
-    L: OpenListener + AsRawFd,
-    A: Listen,
+    L: OpenListener + AsRawFd + Drop,
+    A: Listen<Listener = L>,
     S: Shelf + Drop,
     F: Write,
 >(
-    bound: &Bound<'_, R, L>,
+    rt: &R,
     arrivals: &mut A,
     serving: Serving,
     shelf: S,
@@ -199,12 +212,12 @@ where
     ensures status { IsEnd result.0 }
 {
     if serving.append_only {
-        let mut kept = Kept::new(bound.rt.alloc(), AppendOnly::new(shelf));
-        let status = serve_listener(bound, arrivals, serving, &mut kept, faults);
+        let mut kept = Kept::new(rt.alloc(), AppendOnly::new(shelf));
+        let status = serve_listener(rt, arrivals, serving, &mut kept, faults);
         return (status, kept.into_inner().into_inner());
     }
-    let mut kept = Kept::new(bound.rt.alloc(), shelf);
-    let status = serve_listener(bound, arrivals, serving, &mut kept, faults);
+    let mut kept = Kept::new(rt.alloc(), shelf);
+    let status = serve_listener(rt, arrivals, serving, &mut kept, faults);
     (status, kept.into_inner())
 }
 
@@ -215,6 +228,8 @@ pub struct Serving {
     pub connections: u64,
     /// How many at once, 1 to 256: with 1 one after another, each from its first request to its end.
     pub at_once: usize,
+    /// How many mebibytes large frames may take together that are being read; 0: enough for the greatest of each connection.
+    pub memory: u64,
     /// A connection that is idle for longer than this ends; `None`: none does.
     pub idle: Option<Duration>,
     /// The store only appends: it refuses to delete any object.
@@ -309,11 +324,7 @@ where
         Status::Done => {}
         other => return other,
     }
-    let mut arrivals = Arrivals::at(rt, &listener, serving.idle);
-    let bound = Bound {
-        rt,
-        listener: &listener,
-    };
-    let (status, _) = serve_shelf(&bound, &mut arrivals, serving, shelf, &mut console.faults);
+    let mut arrivals = Arrivals::at(rt, listener, serving.idle);
+    let (status, _) = serve_shelf(rt, &mut arrivals, serving, shelf, &mut console.faults);
     status
 }

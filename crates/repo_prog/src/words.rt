@@ -15,8 +15,8 @@ use crate::errands::{Errand, errand_of, retry_of, with_command, with_errands};
 use crate::folder_words::folder_of;
 use crate::help::{FRAMES, INIT, LOOP, PLAY, SERVE};
 use crate::meanings::{
-    APPEND_ONLY, AT_ONCE, BITS, CONNECTIONS, FORMAT, IDLE, LISTENER, MAX, MIN, NEW_STORE, STORE,
-    TARGET,
+    APPEND_ONLY, AT_ONCE, BITS, CONNECTIONS, FORMAT, IDLE, LISTENER, MAX, MEMORY, MIN, NEW_STORE,
+    STORE, TARGET,
 };
 use crate::serve::Serving;
 use clap::error::ErrorKind;
@@ -204,6 +204,16 @@ pub fn idle<'a>(alloc: Global, default: &'a str) -> Result<Arg<'a>, AllocError>
     }
 }
 
+/// The option that says how many mebibytes large frames may take.
+fn memory<'a>(alloc: Global) -> Result<Arg<'a>, AllocError>
+    ensures { IfOk result (IsOfKind (number_rule (codes "memory") (codes "0"))) }
+{
+    match number(alloc, "memory", "0", MEMORY) {
+        Ok(word) => Ok(word.value_name("MIB")),
+        Err(error) => Err(error),
+    }
+}
+
 fn serve_words<'a>(alloc: Global) -> Result<Command<'a>, AllocError>
     ensures { IfOk result (IsCommand (codes "serve") serve_rules) }
 {
@@ -214,6 +224,7 @@ fn serve_words<'a>(alloc: Global) -> Result<Command<'a>, AllocError>
     let command = with_word(command, Ok(needed(alloc, "ADDR", LISTENER)))?;
     let command = with_word(command, number(alloc, "connections", "1", CONNECTIONS))?;
     let command = with_word(command, number(alloc, "at-once", "1", AT_ONCE))?;
+    let command = with_word(command, memory(alloc))?;
     let command = with_word(command, idle(alloc, "21600"))?;
     with_word(command, Ok(flag(alloc, "append-only", APPEND_ONLY)))
 }
@@ -379,10 +390,12 @@ fn serving_of(matches: &ArgMatches) -> Result<Serving, WordsError>
     let Some(at_once) = at_once_of(number_of(matches, "at-once")?) else {
         return Err(WordsError::BadArgument);
     };
+    let memory = number_of(matches, "memory")?;
     let idle = idle_in(matches)?;
     Ok(Serving {
         connections,
         at_once,
+        memory,
         idle,
         append_only: is_given(matches, "append-only"),
     })

@@ -23,9 +23,10 @@ fn connections_that_wait_are_served(rt: HostRuntime) -> Result<(), Fail> {
     let manner = Manner {
         connections: 2,
         at_once: 3,
+        memory: None,
         idle: Some(Duration::from_secs(60)),
     };
-    let served = serve_many(&rt, &listener, manner, &mut shelf, &mut faults)?;
+    let served = serve_many(&rt, listener, manner, &mut shelf, &mut faults)?;
     let mut reply = [0u8; 37];
     first.read_exact(&mut reply)?;
     let is_first = reply == token(1);
@@ -48,9 +49,10 @@ fn a_connection_that_makes_no_sense_is_told(rt: HostRuntime) -> Result<(), Fail>
     let manner = Manner {
         connections: 2,
         at_once: 2,
+        memory: None,
         idle: None,
     };
-    let served = serve_many(&rt, &listener, manner, &mut shelf, &mut faults)?;
+    let served = serve_many(&rt, listener, manner, &mut shelf, &mut faults)?;
     let mut reply = [0u8; 37];
     second.read_exact(&mut reply)?;
     let is_told = faults.as_slice() == b"malformed\n".as_slice();

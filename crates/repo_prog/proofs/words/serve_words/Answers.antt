@@ -11,5 +11,6 @@ returns c =
     let with_2 = more_words _ _ _ _ _ with_1 (c.in_ok-command-2.ensures _ c.needed-2.ensures) in
     let with_3 = more_words _ _ _ _ _ with_2 (c.in_ok-command-3.ensures _ c.number.ensures) in
     let with_4 = more_words _ _ _ _ _ with_3 (c.in_ok-command-4.ensures _ c.number-2.ensures) in
-    let with_5 = more_words _ _ _ _ _ with_4 (c.in_ok-command-5.ensures _ c.idle.ensures) in
-    more_words_of _ _ _ _ c.with_word-6.result with_5 (c.with_word-6.ensures _ c.flag.ensures)
+    let with_5 = more_words _ _ _ _ _ with_4 (c.in_ok-command-5.ensures _ c.memory.ensures) in
+    let with_6 = more_words _ _ _ _ _ with_5 (c.in_ok-command-6.ensures _ c.idle.ensures) in
+    more_words_of _ _ _ _ c.with_word-7.result with_6 (c.with_word-7.ensures _ c.flag.ensures)
