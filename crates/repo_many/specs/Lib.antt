@@ -2,3 +2,4 @@ pub mod Arriving
 pub mod Endings
 pub mod Rooms
 pub mod Times
+pub mod Wires

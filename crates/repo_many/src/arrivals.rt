@@ -5,6 +5,7 @@ ghost use Rattle.repo_many.specs.declared.arrivals.Arrival.{Arrival};
 
 use crate::doors::Look;
 use crate::sockets::Socket;
+use crate::wires::Link;
 use mio::unix::SourceFd;
 use mio::{Interest, Poll, Token};
 use std::io;
@@ -16,7 +17,7 @@ use std::os::fd::AsRawFd;
 #[derive(Drop)]
 pub struct Arrival<T: Drop> {
     pub look: Look,
-    pub socket: Option<Socket<T>>,
+    pub socket: Option<Socket<Link<T>>>,
 }
 
 /// Has a poll tell when a socket is ready.
@@ -82,7 +83,7 @@ where
     Arrival {
         look: Look::Came,
         socket: Some(Socket {
-            stream,
+            stream: Link { stream },
             since: time,
             ready: true,
             at_end: false,

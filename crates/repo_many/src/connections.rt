@@ -14,9 +14,10 @@ use crate::places::{Place, leave, left_by, named_at};
 use crate::progress::Progress;
 use crate::sockets::{Timing, Turn};
 use crate::times::Tally;
+use crate::wires::Wire;
 use repo_hall::Hall;
 use repo_store::{ServeError, Shelf};
-use std::io::{Read, Write};
+use std::io::Write;
 
 /// The connections of a server, with their guests.
 #[derive(Drop)]
@@ -31,7 +32,7 @@ pub struct Connections<T: Drop> {
     pub piece: Vec<u8>,
 }
 
-impl<T: Read + Write + Drop> Connections<T> {
+impl<T: Wire + Drop> Connections<T> {
     /// The turn of the connection at a place, if there is one.
     fn turn_at<S: Shelf>(&mut self, turn: Turn, shelf: &mut S) -> Progress
         requires { turn.place < length self.old.hall.guests.items }

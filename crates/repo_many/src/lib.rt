@@ -31,6 +31,7 @@ mod sockets;
 mod steps;
 mod times;
 mod waits;
+mod wires;
 
 pub use manners::Manner;
 pub use servers::serve_many;

@@ -16,6 +16,7 @@ use crate::places::{Place, is_free, is_in_use, is_taken, seat};
 use crate::sockets::Timing;
 use crate::times::{Served, Tally, Watch, nanos_of};
 use crate::waits::{LISTENER, earliest, mark_ready};
+use crate::wires::Link;
 use mio::{Events, Interest, Poll};
 use repo_hall::{Hall, HallError};
 use repo_store::{ServeError, Shelf, room};
@@ -34,7 +35,7 @@ struct Server<T: Drop, L: Drop> {
     listener: Option<L>,
     poll: Poll,
     events: Events,
-    connections: Connections<T>,
+    connections: Connections<Link<T>>,
     door: Door,
     watch: Watch,
     tally: Tally,

@@ -1,19 +1,21 @@
 //! One connection, with its socket.
 
-ghost use Rattle.std.specs.Prelude.{◌≡◌, ◌≢◌, ◌<◌, length, slice_get, Some};
+ghost use Rattle.std.specs.Prelude.{◌≡◌, ◌≢◌, ◌<◌, [], List, length, slice_get, Some};
 ghost use Rattle.repo_hall.specs.Guests.{IsAwaited};
-ghost use Rattle.repo_hall.specs.Halls.{HallLeads, HallLeavesStore, StaysAt};
+ghost use Rattle.repo_hall.specs.Halls.{HallLeads, StaysAt};
 ghost use Rattle.repo_hall.specs.declared.guests.Guest.{Guest};
 ghost use Rattle.repo_many.specs.Endings.{GuestIs, IsDone};
+ghost use Rattle.repo_many.specs.Wires.{HallServes, HallServesStill, IsLost};
 ghost use Rattle.repo_many.specs.declared.progress.Progress.{Progress};
+ghost use Rattle.repo_store.specs.Channels.{Passage};
 
 use crate::idling::{endure, is_idle};
 use crate::large_frames::{HEAD, Room};
 use crate::progress::Progress;
 use crate::steps::{give, reply, take};
+use crate::wires::Wire;
 use repo_hall::Hall;
 use repo_store::{ServeError, Shelf};
-use std::io::{Read, Write};
 
 /// What a round knows of the time, in nanoseconds.
 #[derive(Clone, Copy, Debug)]
@@ -47,7 +49,16 @@ pub struct Socket<T: Drop> {
     pub named: u32,
 }
 
-impl<T: Read + Write + Drop> Socket<T> {
+/// The length that bytes name that go on with these.
+fn length_after(named: u32, bytes: &[u8]) -> u32 {
+    let mut named = named;
+    for byte in bytes {
+        named = named.wrapping_mul(256).wrapping_add(u32::from(*byte));
+    }
+    named
+}
+
+impl<T: Wire + Drop> Socket<T> {
     /// How many bytes are read at most, where so many of the frame are there: what its length lacks, or else the
     /// frame. So nothing is read of a frame before the one in front of it was answered.
     fn wanted(&self, held: usize) -> usize {
@@ -58,19 +69,12 @@ impl<T: Read + Write + Drop> Socket<T> {
         whole.saturating_sub(held).max(1)
     }
 
-    /// Notes the length that these bytes go on to name.
-    fn note_length(&mut self, bytes: &[u8]) {
-        for byte in bytes {
-            self.named = self.named.wrapping_mul(256).wrapping_add(u32::from(*byte));
-        }
-    }
-
     /// Goes on with the input of a guest of which more is awaited: a piece is taken, or it ended.
     fn take_more(&mut self, hall: &mut Hall, turn: Turn, piece: &mut [u8]) -> Progress
         requires place { turn.place < length hall.old.guests.items }
         requires awaited { (g : Guest) → slice_get hall.old.guests.items turn.place ≡ Some g → IsAwaited g }
         ensures end { result ≡ Progress.AtEnd → GuestIs IsDone hall.new.guests.items turn.place }
-        ensures leaves { HallLeavesStore hall.old hall.new }
+        ensures serves { (lost : List Passage) × IsLost result lost × HallServesStill T.hears T.says hall.old turn.place self.old.stream lost hall.new self.new.stream }
         ensures places { length hall.new.guests.items ≡ length hall.old.guests.items }
         ensures guests { StaysAt hall.old turn.place hall.new }
     {
@@ -92,7 +96,7 @@ impl<T: Read + Write + Drop> Socket<T> {
         }
         if held < HEAD {
             let count = hall.held(turn.place).saturating_sub(held).min(most);
-            self.note_length(&piece[..count]);
+            self.named = length_after(self.named, &piece[..count]);
         }
         taken
     }
@@ -108,7 +112,8 @@ impl<T: Read + Write + Drop> Socket<T> {
     ) -> Progress
         requires { turn.place < length hall.old.guests.items }
         ensures end { result ≡ Progress.AtEnd → GuestIs IsDone hall.new.guests.items turn.place }
-        ensures leads { S.honest shelf.old → HallLeads hall.old (S.store shelf.old) (S.failed shelf.old) hall.new (S.store shelf.new) (S.failed shelf.new) }
+        ensures serves { S.honest shelf.old → (lost : List Passage) × IsLost result lost
+            × HallServes T.hears T.says hall.old (S.store shelf.old) (S.failed shelf.old) turn.place self.old.stream lost hall.new (S.store shelf.new) (S.failed shelf.new) self.new.stream }
         ensures honest { S.honest shelf.old → S.honest shelf.new }
         ensures places { length hall.new.guests.items ≡ length hall.old.guests.items }
         ensures guests { StaysAt hall.old turn.place hall.new }
@@ -134,7 +139,8 @@ impl<T: Read + Write + Drop> Socket<T> {
     /// It stands still: it isn't ready, and fails if it was idle for too long.
     fn stand(&mut self, hall: &Hall, turn: Turn) -> Progress
         requires { turn.place < length hall.now.guests.items }
-        ensures { result ≢ Progress.AtEnd }
+        ensures goes_on { result ≢ Progress.AtEnd }
+        ensures stream { self.new.stream ≡ self.old.stream }
     {
         self.ready = false;
         let is_idle = is_idle(turn.timing.idle, turn.timing.time, self.since);
@@ -151,6 +157,8 @@ impl<T: Read + Write + Drop> Socket<T> {
     ) -> Progress
         requires { turn.place < length hall.old.guests.items }
         ensures end { result ≡ Progress.AtEnd → GuestIs IsDone hall.new.guests.items turn.place }
+        ensures serves { S.honest shelf.old → (lost : List Passage) × IsLost result lost
+            × HallServes T.hears T.says hall.old (S.store shelf.old) (S.failed shelf.old) turn.place self.old.stream lost hall.new (S.store shelf.new) (S.failed shelf.new) self.new.stream }
         ensures leads { S.honest shelf.old → HallLeads hall.old (S.store shelf.old) (S.failed shelf.old) hall.new (S.store shelf.new) (S.failed shelf.new) }
         ensures honest { S.honest shelf.old → S.honest shelf.new }
         ensures places { length hall.new.guests.items ≡ length hall.old.guests.items }

@@ -1,28 +1,24 @@
 //! What a connection's turn is made of: one write, one answer, or one read.
 
-ghost use Rattle.std.specs.Prelude.{◌≡◌, ◌≢◌, ◌⊎◌, ◌<◌, [], ℕ, List, length, slice_get, take, Some, Ok, false};
-ghost use Rattle.std.specs.Io.KnownBytes.{Appends, Consumes, IsAtEnd};
-ghost use Rattle.repo_hall.specs.Guests.{AnswerCause, IsAwaited, out_of};
-ghost use Rattle.repo_hall.specs.Halls.{HallLeads, HallLeavesStore, HappensAt, NothingHappens, StaysAt};
-ghost use Rattle.repo_hall.specs.Happenings.{Brought, Given};
+ghost use Rattle.std.specs.Prelude.{◌≡◌, ◌≢◌, ◌<◌, [], List, length, slice_get, Some, Ok, false};
+ghost use Rattle.repo_hall.specs.Guests.{AnswerCause, IsAwaited};
+ghost use Rattle.repo_hall.specs.Halls.{StaysAt};
 ghost use Rattle.repo_hall.specs.declared.guests.Guest.{Guest};
-ghost use Rattle.repo_store.specs.declared.serving.ServeError.{ServeError};
+ghost use Rattle.repo_many.specs.Wires.{HallAnswers, HallServesStill, IsLost};
 ghost use Rattle.repo_many.specs.declared.progress.Progress.{Progress};
+ghost use Rattle.repo_store.specs.Channels.{Passage};
 
 use crate::progress::Progress;
+use crate::wires::Wire;
 use repo_hall::Hall;
 use repo_store::{ServeError, Shelf};
-use std::io::{ErrorKind, Read, Write};
+use std::io::ErrorKind;
 
-/// Gives the guest at a place some of what it is to be given, by one write at most, which is of nothing else. Just what was written
-/// counts as given.
-pub fn give<W: Write>(hall: &mut Hall, place: usize, writer: &mut W) -> Progress
+/// Gives the guest at a place some of what it is to be given, by saying it once at most. Just what was said counts as given.
+pub fn give<C: Wire>(hall: &mut Hall, place: usize, wire: &mut C) -> Progress
     requires { place < length hall.old.guests.items }
-    ensures written { (g : Guest) → slice_get hall.old.guests.items place ≡ Some g
-        → (n : ℕ) × Appends (W.contents writer.old) (W.contents writer.new) (take n (out_of g))
-        × (((n ≡ 0) × NothingHappens hall.old hall.new) ⊎ HappensAt (λ k. Given k (take n (out_of g))) hall.old place hall.new) }
+    ensures serves { HallServesStill C.hears C.says hall.old place wire.old [] hall.new wire.new }
     ensures goes_on { result ≢ Progress.AtEnd }
-    ensures leaves { HallLeavesStore hall.old hall.new }
     ensures places { length hall.new.guests.items ≡ length hall.old.guests.items }
     ensures guests { StaysAt hall.old place hall.new }
 {
@@ -30,7 +26,7 @@ pub fn give<W: Write>(hall: &mut Hall, place: usize, writer: &mut W) -> Progress
     if out.is_empty() {
         return Progress::Still;
     }
-    match writer.write(out) {
+    match wire.say(out) {
         Ok(0) => Progress::Failed(ServeError::Write),
         Ok(count) => {
             hall.gave(place, count);
@@ -42,20 +38,17 @@ pub fn give<W: Write>(hall: &mut Hall, place: usize, writer: &mut W) -> Progress
     }
 }
 
-/// Takes a piece of what the guest at a place brings, of which more is awaited, by one read: what is read is what it brings, and
-/// nothing of it is let go unless there is no memory for it, which is told. Its end is told only where nothing more can be read.
-pub fn take<R: Read>(hall: &mut Hall, place: usize, piece: &mut [u8], reader: &mut R) -> Progress
+/// Takes a piece of what the guest at a place brings, of which more is awaited, by hearing once: what is heard is what it brings, and
+/// nothing of it is let go unless there is no memory for it, which is told. Its end is told only if nothing more can be heard.
+pub fn take<C: Wire>(hall: &mut Hall, place: usize, piece: &mut [u8], wire: &mut C) -> Progress
     requires place { place < length hall.old.guests.items }
     requires awaited { (g : Guest) → slice_get hall.old.guests.items place ≡ Some g → IsAwaited g }
-    ensures read { (bytes : List ℕ) × Consumes (R.remaining reader.old) (R.remaining reader.new) bytes
-        × ((NothingHappens hall.old hall.new × ((bytes ≡ []) ⊎ (result ≡ Progress.Failed ServeError.Memory)))
-        ⊎ HappensAt (λ k. Brought k bytes) hall.old place hall.new) }
-    ensures over { result ≡ Progress.AtEnd → 0 < length piece.old → IsAtEnd (R.remaining reader.new) }
-    ensures leaves { HallLeavesStore hall.old hall.new }
+    ensures serves { (lost : List Passage) × IsLost result lost × HallServesStill C.hears C.says hall.old place wire.old lost hall.new wire.new }
+    ensures over { result ≡ Progress.AtEnd → 0 < length piece.new → C.is_over wire.new }
     ensures places { length hall.new.guests.items ≡ length hall.old.guests.items }
     ensures guests { StaysAt hall.old place hall.new }
 {
-    match reader.read(piece) {
+    match wire.hear(piece) {
         Ok(0) => Progress::AtEnd,
         Ok(count) => match hall.arrives(place, &piece[..count]) {
             Ok(()) => Progress::Moved,
@@ -73,7 +66,7 @@ pub fn reply<S: Shelf>(hall: &mut Hall, place: usize, shelf: &mut S) -> Progress
     ensures still { result ≡ Progress.Still → (hall.new.guests.items ≡ hall.old.guests.items)
         × ((g : Guest) → slice_get hall.old.guests.items place ≡ Some g → AnswerCause g (Ok false)) }
     ensures goes_on { result ≢ Progress.AtEnd }
-    ensures leads { S.honest shelf.old → HallLeads hall.old (S.store shelf.old) (S.failed shelf.old) hall.new (S.store shelf.new) (S.failed shelf.new) }
+    ensures answers { S.honest shelf.old → HallAnswers hall.old (S.store shelf.old) (S.failed shelf.old) place hall.new (S.store shelf.new) (S.failed shelf.new) }
     ensures honest { S.honest shelf.old → S.honest shelf.new }
     ensures places { length hall.new.guests.items ≡ length hall.old.guests.items }
     ensures guests { StaysAt hall.old place hall.new }
