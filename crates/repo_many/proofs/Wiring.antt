@@ -3,12 +3,12 @@ use Rattle.std.proofs.Common.{◌≡◌, ◌≢◌, ◌<◌, ◌⊎◌, ◌++◌
 use Rattle.std.proofs.lemmas.List.{append_assoc}
 use Rattle.std.proofs.lemmas.Bool.Decides.{eqb_tells}
 use Rattle.repo_store.specs.declared.forms.ServiceError.{ServiceError}
-use Rattle.repo_store.specs.Channels.{Passage, heard, said, Passes}
+use Rattle.repo_store.specs.Channels.{Passage, heard, said}
 use Rattle.repo_store.specs.Stores.{Store}
 use Rattle.repo_hall.specs.declared.guests.Guest.{Guest}
 use Rattle.repo_hall.specs.Halls.{AnswerAdds, IsOneMore, StaysGuest, Stands}
 use Rattle.repo_hall.specs.Guests.{AnswerCause, IsAwaited}
-use Rattle.repo_hall.specs.Happenings.{Answered, AreInTurn, Brought, Given, Happening, Log, going_on, stay, whose}
+use Rattle.repo_hall.specs.Happenings.{Answered, AreInTurn, Brought, Given, Happening, Log, whose}
 use Rattle.repo_hall.proofs.Hosting.{answers_at, happens_at, nothing_happens, there}
 use Rattle.repo_hall.proofs.Turning.{answers_in_turn, brings_in_turn}
 use Rattle.repo_many.specs.declared.progress.Progress.{Progress}

@@ -1,4 +1,5 @@
 pub mod Arriving
+pub mod Connected
 pub mod Endings
 pub mod Rooms
 pub mod Times

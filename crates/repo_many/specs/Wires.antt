@@ -1,5 +1,6 @@
 -- What goes over the connections of a server, and that it is what happens to their guests.
-use Rattle.std.specs.Prelude.{◌≡◌, ◌≢◌, ◌⊎◌, ◌++◌, ◌∷◌, [], ℕ, List, Some, cond, eqb, slice_get}
+use Rattle.std.specs.Prelude.{◌≡◌, ◌≢◌, ◌⊎◌, ◌++◌, ◌∷◌, [], ℕ, List, Option, Some, cond, eqb, slice_get}
+use Rattle.std.specs.Io.KnownBytes.{Appends, Consumes}
 use Rattle.repo_store.specs.Channels.{Passage, heard, said, Passes}
 use Rattle.repo_store.specs.Stores.{Store}
 use Rattle.repo_store.specs.declared.serving.ServeError.{ServeError}
@@ -8,6 +9,7 @@ use Rattle.repo_hall.specs.Happenings.{Answered, AreInTurn, Brought, Given, Log,
 use Rattle.repo_hall.specs.declared.guests.Guest.{Guest}
 use Rattle.repo_hall.specs.declared.halls.Hall.{Hall}
 use Rattle.repo_many.specs.declared.progress.Progress.{Progress}
+use Rattle.repo_many.specs.declared.wires.Link.{Link}
 
 -- what the guest of a number brought and was given, piece by piece, the newest first
 abbrev pub passages : ℕ → Log → List Passage
@@ -55,3 +57,11 @@ HallAnswers old mid k place new to l = (from : Store) (failed : ℕ) (log : Log)
 -- what is lost of what was heard by a turn that came to this: nothing, unless there was no memory for it
 abbrev pub IsLost : Progress → List Passage → Type 0
 IsLost progress lost = (lost ≡ []) ⊎ (progress ≡ Progress.Failed ServeError.Memory)
+
+-- what hearing some bytes over a socket leads to, as far as is known what it has left
+abbrev pub Hears : {T : Type 0} → (T → Option (List ℕ)) → Link T → List ℕ → Link T → Type 0
+Hears remaining a bytes b = Consumes (remaining a.stream) (remaining b.stream) bytes
+
+-- what saying some bytes over a socket leads to, as far as is known what it took
+abbrev pub Says : {T : Type 0} → (T → Option (List ℕ)) → Link T → List ℕ → Link T → Type 0
+Says contents a bytes b = Appends (contents a.stream) (contents b.stream) bytes

@@ -1,12 +1,16 @@
 //! All connections of a server, each at its place, and rounds over them.
 
-ghost use Rattle.std.specs.Prelude.{◌≡◌, ◌≢◌, ◌<◌, length, slice_get, Some};
+ghost use Rattle.std.specs.Prelude.{◌≡◌, ◌≢◌, ◌<◌, List, length, slice_get, Some};
 ghost use Rattle.repo_hall.specs.Guests.{IsNewGuest};
-ghost use Rattle.repo_hall.specs.Halls.{HallLeads, HallLeavesStore, LeavesOthers, StaysAt};
+ghost use Rattle.repo_hall.specs.Halls.{HallLeads, HallLeavesStore, LeavesOthers, NothingHappens, StaysAt};
+ghost use Rattle.repo_many.specs.Connected.{ConnectionsLead, IsStill, LeavesPlaces};
 ghost use Rattle.repo_many.specs.Endings.{GuestIs, IsDone, IsFreed, IsOver};
+ghost use Rattle.repo_many.specs.Wires.{HallServes, IsLost};
 ghost use Rattle.repo_many.specs.declared.places.Place.{Place};
 ghost use Rattle.repo_many.specs.declared.progress.Progress.{Progress};
+ghost use Rattle.repo_many.specs.declared.sockets.Socket.{Socket};
 ghost use Rattle.repo_many.specs.declared.times.Served.{Served};
+ghost use Rattle.repo_store.specs.Channels.{Passage};
 ghost use Rattle.repo_store.specs.declared.serving.ServeError.{ServeError};
 
 use crate::large_frames::{HEAD, LARGE, LargeFrame, LargeFrames, Room};
@@ -18,6 +22,7 @@ use crate::wires::Wire;
 use repo_hall::Hall;
 use repo_store::{ServeError, Shelf};
 use std::io::Write;
+use std::mem::replace;
 
 /// The connections of a server, with their guests.
 #[derive(Drop)]
@@ -37,16 +42,31 @@ impl<T: Wire + Drop> Connections<T> {
     fn turn_at<S: Shelf>(&mut self, turn: Turn, shelf: &mut S) -> Progress
         requires { turn.place < length self.old.hall.guests.items }
         ensures end { result ≡ Progress.AtEnd → GuestIs IsDone self.new.hall.guests.items turn.place }
+        ensures serves { S.honest shelf.old → (s : Socket _) → slice_get self.old.places.items turn.place ≡ Some (Place.Taken s)
+            → (t : Socket _) × (slice_get self.new.places.items turn.place ≡ Some (Place.Taken t)) × (lost : List Passage) × IsLost result lost
+            × HallServes T.hears T.says self.old.hall (S.store shelf.old) (S.failed shelf.old) turn.place s.stream lost self.new.hall (S.store shelf.new) (S.failed shelf.new) t.stream }
+        ensures nobody { ((s : Socket _) → slice_get self.old.places.items turn.place ≢ Some (Place.Taken s)) → (result ≡ Progress.Still) × (self.new.hall ≡ self.old.hall) × IsStill self.old.places.items self.new.places.items × (shelf.new ≡ shelf.old) }
+        ensures kept { LeavesPlaces self.old.places.items turn.place self.new.places.items }
         ensures leads { S.honest shelf.old → HallLeads self.old.hall (S.store shelf.old) (S.failed shelf.old) self.new.hall (S.store shelf.new) (S.failed shelf.new) }
         ensures honest { S.honest shelf.old → S.honest shelf.new }
         ensures places { length self.new.hall.guests.items ≡ length self.old.hall.guests.items }
         ensures guests { StaysAt self.old.hall turn.place self.new.hall }
     {
-        match self.places.get_mut(turn.place) {
-            Some(Place::Taken(socket)) => {
-                socket.turn(&mut self.hall, turn, self.piece.as_mut_slice(), shelf)
+        if turn.place >= self.places.len() {
+            return Progress::Still;
+        }
+        let here = replace(&mut self.places[turn.place], Place::LeftOut);
+        match here {
+            Place::Taken(mut socket) => {
+                let piece = self.piece.as_mut_slice();
+                let progress = socket.turn(&mut self.hall, turn, piece, shelf);
+                self.places[turn.place] = Place::Taken(socket);
+                progress
             }
-            _ => Progress::Still,
+            other => {
+                self.places[turn.place] = other;
+                Progress::Still
+            }
         }
     }
 
@@ -59,6 +79,8 @@ impl<T: Wire + Drop> Connections<T> {
         ensures others { LeavesOthers self.old.hall.guests.items place self.new.hall.guests.items }
         ensures renewed { slice_get self.new.places.items place ≡ Some Place.Free → GuestIs (λ g. IsNewGuest g self.old.hall.entered) self.new.hall.guests.items place }
         ensures closed { (socket : _) → slice_get self.new.places.items place ≢ Some (Place.Taken socket) }
+        ensures kept { LeavesPlaces self.old.places.items place self.new.places.items }
+        ensures nothing { NothingHappens self.old.hall self.new.hall }
         ensures silent { tally.new.served ≡ Served.Well → (tally.old.served ≡ Served.Well) × (faults.new ≡ faults.old) }
     {
         let renewed = self.hall.renew(place);
@@ -84,6 +106,9 @@ impl<T: Wire + Drop> Connections<T> {
         ensures places { length self.new.hall.guests.items ≡ length self.old.hall.guests.items }
         ensures others { LeavesOthers self.old.hall.guests.items place self.new.hall.guests.items }
         ensures freed { IsFreed place self.old.places.items self.new.places.items self.new.hall.guests.items }
+        ensures renewed { IsOver progress → slice_get self.new.places.items place ≡ Some Place.Free → GuestIs (λ g. IsNewGuest g self.old.hall.entered) self.new.hall.guests.items place }
+        ensures kept { LeavesPlaces self.old.places.items place self.new.places.items }
+        ensures nothing { NothingHappens self.old.hall self.new.hall }
         ensures closed { IsOver progress → (socket : _) → slice_get self.new.places.items place ≢ Some (Place.Taken socket) }
         ensures stays { ¬ IsOver progress → (self.new ≡ self.old) × (faults.new ≡ faults.old) }
         ensures failed { (error : ServeError) → progress ≡ Progress.Failed error → tally.new.served ≡ Served.WithErrors }
@@ -155,6 +180,7 @@ impl<T: Wire + Drop> Connections<T> {
         faults: &mut F,
     )
         requires { turn.place < length self.old.hall.guests.items }
+        ensures connected { S.honest shelf.old → ConnectionsLead T.hears T.says self.old (S.store shelf.old) (S.failed shelf.old) self.new (S.store shelf.new) (S.failed shelf.new) }
         ensures leads { S.honest shelf.old → HallLeads self.old.hall (S.store shelf.old) (S.failed shelf.old) self.new.hall (S.store shelf.new) (S.failed shelf.new) }
         ensures honest { S.honest shelf.old → S.honest shelf.new }
         ensures places { length self.new.hall.guests.items ≡ length self.old.hall.guests.items }
@@ -175,6 +201,7 @@ impl<T: Wire + Drop> Connections<T> {
         tally: &mut Tally,
         faults: &mut F,
     )
+        ensures connected { S.honest shelf.old → ConnectionsLead T.hears T.says self.old (S.store shelf.old) (S.failed shelf.old) self.new (S.store shelf.new) (S.failed shelf.new) }
         ensures leads { S.honest shelf.old → HallLeads self.old.hall (S.store shelf.old) (S.failed shelf.old) self.new.hall (S.store shelf.new) (S.failed shelf.new) }
         ensures honest { S.honest shelf.old → S.honest shelf.new }
         ensures silent { tally.new.served ≡ Served.Well → (tally.old.served ≡ Served.Well) × (faults.new ≡ faults.old) }

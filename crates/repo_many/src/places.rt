@@ -1,9 +1,11 @@
 //! The places of a server: at each a connection, or none.
 
 ghost use Rattle.std.specs.Prelude.{◌≡◌, ◌≢◌, true, slice_get, Some};
+ghost use Rattle.repo_many.specs.Connected.{IsSeated, IsStill, LeavesPlaces, woken};
 ghost use Rattle.repo_many.specs.declared.places.Place.{Place};
 
 use crate::sockets::Socket;
+use std::mem::replace;
 
 /// What is at a place.
 #[derive(Drop)]
@@ -17,7 +19,9 @@ pub enum Place<T: Drop> {
 }
 
 /// Whether a place is free.
-pub fn is_free<T: Drop>(place: &Place<T>) -> bool {
+pub fn is_free<T: Drop>(place: &Place<T>) -> bool
+    ensures { result ≡ true → place.now ≡ Place.Free }
+{
     match place {
         Place::Free => true,
         _ => false,
@@ -62,7 +66,8 @@ pub fn left_by<T: Drop>(is_renewed: bool) -> Place<T>
 
 /// This is left at a place, if there is one.
 pub fn leave<T: Drop>(places: &mut Vec<Place<T>>, place: usize, left: Place<T>)
-    ensures { (p : Place _) → slice_get places.new.items place ≡ Some p → p ≡ left }
+    ensures there { (p : Place _) → slice_get places.new.items place ≡ Some p → p ≡ left }
+    ensures others { LeavesPlaces places.old.items place places.new.items }
 {
     if place >= places.len() {
         return;
@@ -70,12 +75,42 @@ pub fn leave<T: Drop>(places: &mut Vec<Place<T>>, place: usize, left: Place<T>)
     places[place] = left;
 }
 
-/// This connection takes a place, if there is a connection and the place.
-pub fn seat<T: Drop>(places: &mut Vec<Place<T>>, place: usize, socket: Option<Socket<T>>) {
+/// This connection takes a place, if there is a connection, and the place is free.
+pub fn seat<T: Drop>(places: &mut Vec<Place<T>>, place: usize, socket: Option<Socket<T>>)
+    ensures { IsSeated places.old.items place places.new.items }
+{
     let Some(socket) = socket else {
         return;
     };
-    if let Some(free) = places.get_mut(place) {
-        *free = Place::Taken(socket);
+    if place >= places.len() || !is_free(&places[place]) {
+        return;
     }
+    places[place] = Place::Taken(socket);
+}
+
+/// A place whose connection, if there is one, is ready.
+fn woken<T: Drop>(place: Place<T>) -> Place<T>
+    ensures { result ≡ woken place }
+{
+    match place {
+        Place::Taken(socket) => Place::Taken(Socket {
+            stream: socket.stream,
+            since: socket.since,
+            ready: true,
+            at_end: socket.at_end,
+            named: socket.named,
+        }),
+        other => other,
+    }
+}
+
+/// The connection at a place is ready, if there is one.
+pub fn wake<T: Drop>(places: &mut Vec<Place<T>>, place: usize)
+    ensures { IsStill places.old.items places.new.items }
+{
+    if place >= places.len() {
+        return;
+    }
+    let here = replace(&mut places[place], Place::LeftOut);
+    places[place] = woken(here);
 }

@@ -1,9 +1,13 @@
 //! The server: rounds over all connections, and waiting between them.
 
-ghost use Rattle.std.specs.Prelude.{◌≡◌, [], IfOk, ℕ, length};
+ghost use Rattle.std.specs.Prelude.{◌≡◌, ◌≢◌, [], IfOk, Some, ℕ, length, slice_get};
 ghost use Rattle.repo_store.specs.Stores.{Store};
 ghost use Rattle.repo_hall.specs.Halls.{Hosted, Stands, HallLeads};
 ghost use Rattle.repo_hall.specs.Happenings.{AreInTurn, Log};
+ghost use Rattle.repo_many.specs.Connected.{ConnectionsLead, IsConnection, IsSeated, IsStill};
+ghost use Rattle.repo_many.specs.Wires.{Hears, Says};
+ghost use Rattle.repo_many.specs.declared.places.Place.{Place};
+ghost use Rattle.repo_many.specs.declared.sockets.Socket.{Socket};
 ghost use Rattle.repo_many.specs.declared.times.Served.{Served};
 
 use crate::arrivals::{Arrival, accept, watch, watch_anew};
@@ -54,7 +58,9 @@ fn hall_of(alloc: Global, places: usize) -> Result<Hall, HallError>
 }
 
 /// So many places without a connection.
-fn free_places<T: Drop>(alloc: Global, count: usize) -> io::Result<Vec<Place<T>>> {
+fn free_places<T: Drop>(alloc: Global, count: usize) -> io::Result<Vec<Place<T>>>
+    ensures { IfOk result (λ places. (j : ℕ) (s : Socket _) → slice_get places.items j ≢ Some (Place.Taken s)) }
+{
     let mut places = Vec::new(alloc);
     for place in 0..count {
         places.push(Place::Free)?;
@@ -73,6 +79,7 @@ where
     L::Stream: Read + Write + OpenStream + AsRawFd,
     ensures hall { IfOk result (λ server. server.connections.hall ≡ hall) }
     ensures well { IfOk result (λ server. server.tally.served ≡ Served.Well) }
+    ensures free { IfOk result (λ server. (j : ℕ) (s : Socket _) → slice_get server.connections.places.items j ≢ Some (Place.Taken s)) }
 {
     listener.set_nonblocking(true)?;
     let poll = Poll::new(rt)?;
@@ -135,6 +142,7 @@ impl<T: Drop, L: Drop> Server<T, L> {
     /// something moved not at all.
     fn wait(&mut self) -> io::Result<()>
         ensures hall { self.new.connections.hall ≡ self.old.connections.hall }
+        ensures still { IsStill self.old.connections.places.items self.new.connections.places.items }
         ensures tally { self.new.tally ≡ self.old.tally }
     {
         let wait = match self.pause() {
@@ -170,12 +178,26 @@ impl<
         self.tally.tell(faults, &"all places are taken");
     }
 
-    /// The listener is closed once no more connections are to be taken. Once all places are taken the poll tells anew whether
-    /// somebody waits.
-    fn rest(&mut self)
-        ensures hall { self.new.connections.hall ≡ self.old.connections.hall }
-        ensures tally { self.new.tally ≡ self.old.tally }
+    /// Notes what came of a look for a connection, and reports it if that is to be.
+    fn note<F: Write>(&mut self, look: Look, time: u64, faults: &mut F)
+        ensures connections { self.new.connections ≡ self.old.connections }
+        ensures silent { self.new.tally.served ≡ Served.Well → (self.old.tally.served ≡ Served.Well) × (faults.new ≡ faults.old) }
     {
+        if self.door.note(look, time) {
+            self.tally.tell(faults, &ServeError::Read);
+        }
+    }
+
+    /// After a connection was taken: the listener is closed once no more are to be. Once all places are taken the poll tells anew whether
+    /// somebody waits.
+    fn rest(&mut self, look: Look)
+        ensures connections { self.new.connections ≡ self.old.connections }
+        ensures served { self.new.tally.served ≡ self.old.tally.served }
+    {
+        if look != Look::Came && look != Look::Lost {
+            return;
+        }
+        self.tally.moved = true;
         if self.door.taken >= self.manner.connections {
             self.listener = None;
         }
@@ -191,6 +213,7 @@ impl<
     /// Takes a connection to a free place, if one waits.
     fn take_to<F: Write>(&mut self, place: usize, faults: &mut F)
         ensures hall { self.new.connections.hall ≡ self.old.connections.hall }
+        ensures seated { IsSeated self.old.connections.places.items place self.new.connections.places.items }
         ensures silent { self.new.tally.served ≡ Served.Well → (self.old.tally.served ≡ Served.Well) × (faults.new ≡ faults.old) }
     {
         let time = self.watch.time;
@@ -198,19 +221,15 @@ impl<
             return;
         };
         let Arrival { look, socket } = accept(&self.poll, listener, place, time);
-        if self.door.note(look, time) {
-            self.tally.tell(faults, &ServeError::Read);
-        }
+        self.note(look, time, faults);
         seat(&mut self.connections.places, place, socket);
-        if look == Look::Came || look == Look::Lost {
-            self.tally.moved = true;
-            self.rest();
-        }
+        self.rest(look);
     }
 
     /// Takes a connection, if more may be taken, one waits and there is a place for it.
     fn welcome<F: Write>(&mut self, faults: &mut F)
         ensures hall { self.new.connections.hall ≡ self.old.connections.hall }
+        ensures seated { (place : ℕ) × IsSeated self.old.connections.places.items place self.new.connections.places.items }
         ensures silent { self.new.tally.served ≡ Served.Well → (self.old.tally.served ≡ Served.Well) × (faults.new ≡ faults.old) }
     {
         if !self.is_open() || !self.door.is_time(self.watch.time) {
@@ -230,6 +249,7 @@ impl<
         faults: &mut F,
     ) -> io::Result<()>
         ensures leads { S.honest shelf.old → HallLeads self.old.connections.hall (S.store shelf.old) (S.failed shelf.old) self.new.connections.hall (S.store shelf.new) (S.failed shelf.new) }
+        ensures connected { S.honest shelf.old → ConnectionsLead (Hears T.remaining) (Says T.contents) self.old.connections (S.store shelf.old) (S.failed shelf.old) self.new.connections (S.store shelf.new) (S.failed shelf.new) }
         ensures honest { S.honest shelf.old → S.honest shelf.new }
         ensures silent { self.new.tally.served ≡ Served.Well → (self.old.tally.served ≡ Served.Well) × (faults.new ≡ faults.old) }
     {
@@ -276,6 +296,8 @@ pub fn serve_many<
 where
     L::Stream: Read + Write + OpenStream + AsRawFd,
     ensures hosted { S.honest shelf.old → (log : Log) × Hosted (S.store shelf.old) (S.failed shelf.old) log (S.store shelf.new) (S.failed shelf.new) × AreInTurn log }
+    ensures connected { S.honest shelf.old → (log : Log) × Hosted (S.store shelf.old) (S.failed shelf.old) log (S.store shelf.new) (S.failed shelf.new) × AreInTurn log
+        × ((n : ℕ) → IsConnection (Hears L.Stream.remaining) (Says L.Stream.contents) n log) }
     ensures honest { S.honest shelf.old → S.honest shelf.new }
     ensures silent { IfOk result (λ served. served ≡ Served.Well → faults.new ≡ faults.old) }
 {

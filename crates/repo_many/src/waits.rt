@@ -1,7 +1,9 @@
 //! Waiting between rounds.
 
+ghost use Rattle.repo_many.specs.Connected.{IsStill};
+
 use crate::idling::shorter;
-use crate::places::Place;
+use crate::places::{Place, wake};
 use mio::{Events, Token};
 
 /// What the poll calls the listener.
@@ -25,16 +27,16 @@ pub fn earliest<T: Drop>(places: &[Place<T>]) -> Option<u64> {
 }
 
 /// Notes which connections are ready after a wait, and gives whether the listener is.
-pub fn mark_ready<T: Drop>(events: &Events, places: &mut Vec<Place<T>>) -> bool {
+pub fn mark_ready<T: Drop>(events: &Events, places: &mut Vec<Place<T>>) -> bool
+    ensures { IsStill places.old.items places.new.items }
+{
     let mut listens = false;
     for event in events {
         let token = event.token();
         if token == LISTENER {
             listens = true;
         }
-        if let Some(Place::Taken(socket)) = places.get_mut(token.0) {
-            socket.ready = true;
-        }
+        wake(places, token.0);
     }
     listens
 }

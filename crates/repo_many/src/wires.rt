@@ -35,11 +35,12 @@ pub struct Link<T: Drop> {
 }
 
 impl<T: Read + Write + Drop> Wire for Link<T> {
-    ghost use Rattle.std.specs.Io.KnownBytes.{Appends, Consumes, IsAtEnd};
+    ghost use Rattle.std.specs.Io.KnownBytes.{IsAtEnd};
+    ghost use Rattle.repo_many.specs.Wires.{Hears, Says};
 
-    ghost hears = { λ a bytes b. Consumes (T.remaining a.stream) (T.remaining b.stream) bytes };
+    ghost hears = { Hears T.remaining };
 
-    ghost says = { λ a bytes b. Appends (T.contents a.stream) (T.contents b.stream) bytes };
+    ghost says = { Says T.contents };
 
     ghost is_over = { λ a. IsAtEnd (T.remaining a.stream) };
 

@@ -1,4 +1,4 @@
-use Rattle.std.proofs.Common.{[], ◌≡◌, List, ℕ, ◌∙◌, subst, take}
+use Rattle.std.proofs.Common.{List, ℕ, subst, take}
 use Rattle.repo_hall.proofs.Hosting.{there}
 use Rattle.repo_many.proofs.Wiring.{gives_serves, none_told, says_none, still_serves}
 use Rattle.repo_many.proofs.steps.give.Goals as goal

@@ -12,7 +12,7 @@ where_ok (Err e) P is p = absurd (cc)
 -- a place is left free only where its guest was renewed
 pub returns-else-is_err-clause-renewed : goal.returns-else-is_err-clause-renewed
 returns-else-is_err-clause-renewed g c free guest at =
-    let same = c.leave.ensures _ free in
+    let same = c.leave.ensures.there _ free in
     let given = c.left_by.ensures.free (sym same) in
     let renewed : is_ok c.renew-renewed.result ≡ true = search rules in
     where_ok c.renew-renewed.result _ renewed c.renew-renewed.ensures.ok guest at

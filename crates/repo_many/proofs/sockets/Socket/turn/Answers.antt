@@ -1,4 +1,4 @@
-use Rattle.std.proofs.Common.{rules, [], ◌≡◌, refl, inl, sym, subst}
+use Rattle.std.proofs.Common.{rules, ◌≡◌}
 use Rattle.repo_many.specs.declared.progress.Progress.{Progress}
 use Rattle.repo_many.proofs.Wiring.{none_lost, serves_lead}
 use Rattle.repo_many.proofs.sockets.Socket.turn.Goals as goal
