@@ -26,8 +26,12 @@ kept_on a b c first then only =
     ((λ kind name bytes is. t.0 kind name bytes (f.0 kind name bytes is)), t.1)
 
 -- nothing that is asked leads nowhere else
-ran_still : (store : Store) (failures : ℕ) → Ran store failures store failures
+pub ran_still : (store : Store) (failures : ℕ) → Ran store failures store failures
 ran_still store failures = ([], [], refl, refl)
+
+-- what a hall answered is a run
+pub hosted_ran : (old : Store) (failed : ℕ) (log : Log) (new : Store) (failing : ℕ) → Hosted old failed log new failing → Ran old failed new failing
+hosted_ran old failed log new failing h = (all_asked log, all_replies log, h.run, h.cause)
 
 -- what a hall answered keeps them
 pub hosted_kept : (old : Store) (failed : ℕ) (log : Log) (new : Store) (failing : ℕ) → Hosted old failed log new failing → OnlyAppends old new

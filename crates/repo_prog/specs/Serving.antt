@@ -2,6 +2,8 @@
 use Rattle.std.specs.Prelude.{◌≡◌, ◌↔◌, ◌∷◌, ◌*◌, ◌^◌, ◌-◌, [], ℕ, zero, suc, min, Bool, true, false, List, All, length, Option, Some, None, Result, Err, IsOk}
 use Rattle.repo_hall.specs.Halls.{Hosted}
 use Rattle.repo_hall.specs.Happenings.{AreInTurn, Log}
+use Rattle.repo_many.specs.Connected.{IsConnection}
+use Rattle.repo_many.specs.Wires.{Hears, Says}
 use Rattle.repo_store.specs.Channels.{ServesChannel}
 use Rattle.repo_store.specs.Stores.{Store, appending}
 use Rattle.repo_store.specs.declared.serving.ServeError.{ServeError}
@@ -49,9 +51,11 @@ pub record ServesInTurn {L C : Type 0} (Accepts : L → Bool → Option C → L 
   pub served : AreServed Accepts Leaves Hears Says IsOver turns old from failures new to count
   pub done : (status ≡ Status.Done) ↔ AreWell turns
 
--- what connections that were served at once asked was answered in a hall, by some log in which its guests were served in turn
-abbrev pub ServesAtOnce : Store → ℕ → Store → ℕ → Type 0
-ServesAtOnce from failures to count = (log : Log) × Hosted from failures log to count × AreInTurn log
+-- What connections that were served at once asked was answered in a hall, by some log in which its guests were served in turn. Each guest is a connection,
+-- over which just that went which the guest brought and was given, as far as is known what a connection has left and what it took.
+abbrev pub ServesAtOnce : {T : Type 0} → (T → Option (List ℕ)) → (T → Option (List ℕ)) → Store → ℕ → Store → ℕ → Type 0
+ServesAtOnce remaining contents from failures to count =
+    (log : Log) × Hosted from failures log to count × AreInTurn log × ((n : ℕ) → IsConnection (Hears remaining) (Says contents) n log)
 
 -- a store as it is served: as one that only appends, where it is to be
 abbrev pub as_served : Bool → Store → Store

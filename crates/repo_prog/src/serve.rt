@@ -127,8 +127,9 @@ fn serve_at_once<
 ) -> Status
 where
     L::Stream: Read + Write + OpenStream + AsRawFd,
-    ensures hosted { S.honest shelf.old → ServesAtOnce (S.store shelf.old) (S.failed shelf.old) (S.store shelf.new) (S.failed shelf.new) }
+    ensures hosted { S.honest shelf.old → ServesAtOnce L.Stream.remaining L.Stream.contents (S.store shelf.old) (S.failed shelf.old) (S.store shelf.new) (S.failed shelf.new) }
     ensures kept { S.honest shelf.old → OnlyAppends (S.store shelf.old) (S.store shelf.new) }
+    ensures ran { S.honest shelf.old → Ran (S.store shelf.old) (S.failed shelf.old) (S.store shelf.new) (S.failed shelf.new) }
     ensures honest { S.honest shelf.old → S.honest shelf.new }
     ensures silent { result ≡ Status.Done → faults.new ≡ faults.old }
     ensures status { IsEnd result }
@@ -143,6 +144,34 @@ where
         Ok(Served::Well) => Status::Done,
         Ok(Served::WithErrors) => Status::Failed,
         Err(_) => failed(faults, &"wait failed"),
+    }
+}
+
+/// Serves the connections of a listener at once, if there is one.
+fn serve_given<
+    R: Net + Clock + AllocGlobal,
+    L: OpenListener + AsRawFd + Drop,
+    S: Shelf,
+    F: Write,
+>(
+    rt: &R,
+    listener: Option<L>,
+    serving: Serving,
+    shelf: &mut S,
+    faults: &mut F,
+) -> Status
+where
+    L::Stream: Read + Write + OpenStream + AsRawFd,
+    ensures hosted { S.honest shelf.old → ServesAtOnce L.Stream.remaining L.Stream.contents (S.store shelf.old) (S.failed shelf.old) (S.store shelf.new) (S.failed shelf.new) }
+    ensures kept { S.honest shelf.old → OnlyAppends (S.store shelf.old) (S.store shelf.new) }
+    ensures ran { S.honest shelf.old → Ran (S.store shelf.old) (S.failed shelf.old) (S.store shelf.new) (S.failed shelf.new) }
+    ensures honest { S.honest shelf.old → S.honest shelf.new }
+    ensures silent { result ≡ Status.Done → faults.new ≡ faults.old }
+    ensures status { IsEnd result }
+{
+    match listener {
+        Some(listener) => serve_at_once(rt, listener, serving, shelf, faults),
+        None => failed(faults, &"wait failed"),
     }
 }
 
@@ -165,7 +194,7 @@ where
     L::Stream: Read + Write + OpenStream + AsRawFd,
     ensures served { S.honest shelf.old → serving.at_once ≤ 1 → ServesInTurn A.accepts A.leaves A.Ends.hears A.Ends.says A.Ends.is_over serving.connections result
         arrivals.old (S.store shelf.old) (S.failed shelf.old) arrivals.new (S.store shelf.new) (S.failed shelf.new) }
-    ensures hosted { S.honest shelf.old → 1 < serving.at_once → ServesAtOnce (S.store shelf.old) (S.failed shelf.old) (S.store shelf.new) (S.failed shelf.new) }
+    ensures hosted { S.honest shelf.old → 1 < serving.at_once → ServesAtOnce L.Stream.remaining L.Stream.contents (S.store shelf.old) (S.failed shelf.old) (S.store shelf.new) (S.failed shelf.new) }
     ensures kept { S.honest shelf.old → OnlyAppends (S.store shelf.old) (S.store shelf.new) }
     ensures ran { S.honest shelf.old → Ran (S.store shelf.old) (S.failed shelf.old) (S.store shelf.new) (S.failed shelf.new) }
     ensures honest { S.honest shelf.old → S.honest shelf.new }
@@ -173,10 +202,7 @@ where
     ensures status { IsEnd result }
 {
     if serving.at_once > 1 {
-        return match arrivals.give_up() {
-            Some(listener) => serve_at_once(rt, listener, serving, shelf, faults),
-            None => failed(faults, &"wait failed"),
-        };
+        return serve_given(rt, arrivals.give_up(), serving, shelf, faults);
     }
     let alloc = rt.alloc();
     serve_connections(alloc, arrivals, serving.connections, shelf, faults)
@@ -204,7 +230,7 @@ where
     ensures served { S.honest shelf → serving.at_once ≤ 1 → ServesInTurn A.accepts A.leaves A.Ends.hears A.Ends.says A.Ends.is_over serving.connections result.0
         arrivals.old (as_served serving.append_only (S.store shelf)) (S.failed shelf) arrivals.new (as_served serving.append_only (S.store result.1)) (S.failed result.1) }
     ensures hosted { S.honest shelf → 1 < serving.at_once
-        → ServesAtOnce (as_served serving.append_only (S.store shelf)) (S.failed shelf) (as_served serving.append_only (S.store result.1)) (S.failed result.1) }
+        → ServesAtOnce L.Stream.remaining L.Stream.contents (as_served serving.append_only (S.store shelf)) (S.failed shelf) (as_served serving.append_only (S.store result.1)) (S.failed result.1) }
     ensures kept { S.honest shelf → serving.append_only ≡ true → KeepsObjects (S.store shelf) (S.store result.1) }
     ensures ran { S.honest shelf → Ran (as_served serving.append_only (S.store shelf)) (S.failed shelf) (as_served serving.append_only (S.store result.1)) (S.failed result.1) }
     ensures honest { S.honest shelf → S.honest result.1 }
