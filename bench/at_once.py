@@ -5,8 +5,9 @@ into its rest-server, on the same files in the same minutes, where both are give
 Usage: bench/at_once.py VAULT [RESTIC REST_SERVER]. MIB=N has N MiB for each machine in place of 256.
 
 Each machine has a folder of its own, a mixed tree (bench/files.py) of other bytes than the others'. A line has the program, how
-many machines, and how they went; then the seconds of the clock until the last one was done; seconds of processors of all clients
-together, and of the server; and the greatest resident set of one client, and of the server, in MiB. Afterwards each snapshot is
+many machines, and how they went; then the seconds of the clock until the last one was done; the least and the most MiB a second that
+one of them got; seconds of processors of all clients together, and of the server; and the greatest resident set of one client, and of
+the server, in MiB. Afterwards each snapshot is
 restored and compared. restic encrypts what it stores; its compression is off. Nothing is kept.
 """
 import os
@@ -15,13 +16,14 @@ import subprocess
 import sys
 import tempfile
 import time
+from concurrent.futures import ThreadPoolExecutor
 from pathlib import Path
 
 HERE = Path(__file__).parent
 MIB = int(os.environ.get("MIB", 256))
 PORT = int(os.environ.get("PORT", 7083))
 ADDRESS = f"127.0.0.1:{PORT}"
-MACHINES = (1, 2, 4)
+MACHINES = (1, 2, 4, 8)
 
 
 def quiet(*words):
@@ -94,10 +96,17 @@ class Restic:
         """That restic gives back what it stored isn't tried here."""
 
 
+def timed(child):
+    """As `ended`, and the seconds that it took."""
+    begun = time.monotonic()
+    return *ended(child), time.monotonic() - begun
+
+
 def line(name, machines, how, clock, clients, server):
+    shares = [MIB / it[3] for it in clients]
     processors = f"{sum(it[1] for it in clients):.2f} + {server[1]:.2f}"
     memory = f"{max(it[2] for it in clients) // 1024} + {server[2] // 1024}"
-    print(f"| {name} | {machines} | {how} | {clock:.2f} | {processors} | {memory} |", flush=True)
+    print(f"| {name} | {machines} | {how} | {clock:.2f} | {min(shares):.0f} to {max(shares):.0f} | {processors} | {memory} |", flush=True)
 
 
 def tried(made, top, folders, how):
@@ -105,10 +114,10 @@ def tried(made, top, folders, how):
     store = made(top)
     begun = time.monotonic()
     if how == "at once":
-        children = [store.backup(machine, folder) for machine, folder in enumerate(folders)]
-        clients = [ended(child) for child in children]
+        with ThreadPoolExecutor(len(folders)) as waiting:
+            clients = list(waiting.map(lambda it: timed(store.backup(*it)), enumerate(folders)))
     else:
-        clients = [ended(store.backup(machine, folder)) for machine, folder in enumerate(folders)]
+        clients = [timed(store.backup(machine, folder)) for machine, folder in enumerate(folders)]
     clock = time.monotonic() - begun
     line(store.name, len(folders), how, clock, clients, store.stops())
     store.compares(folders, [it[0] for it in clients])
@@ -118,7 +127,7 @@ def main(vault, peers):
     makers = [lambda top, count: Vault(top, vault, count)]
     if peers:
         makers.append(lambda top, count: Restic(top, *peers))
-    print("| Program | Machines | How | Clock | Processors: clients + server | MiB |\n|---|---|---|---|---|---|")
+    print("| Program | Machines | How | Clock | MiB a second of one | Processors: clients + server | MiB |\n|---|---|---|---|---|---|---|")
     for machines in MACHINES:
         with tempfile.TemporaryDirectory() as top:
             folders = [Path(top) / f"from-{machine}" for machine in range(machines)]

@@ -125,3 +125,10 @@ pub beyond : (fs : List LargeFrame) (i : ℕ) → length fs ≤ i → slice_get 
 beyond [] i far = refl
 beyond (x ∷ fs) zero far = absurd (omega (arith, far))
 beyond (x ∷ fs) (suc i) far = beyond fs i (omega (arith, far))
+
+-- a frame is of the same place in its next minute
+pub minute_place : (free : Bool) (time : ℕ) (f : LargeFrame) → (next_minute free time f).place ≡ f.place
+minute_place free time f = by_test (not (is_slow free time f) && (free || leb 60000000000 (time - f.since))) where
+  by_test : (b : Bool) → (if b then begun time f else f).place ≡ f.place
+  by_test true = refl
+  by_test false = refl

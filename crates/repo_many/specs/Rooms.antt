@@ -1,5 +1,5 @@
 -- Room for large frames: who has some, and who waits for it in a queue.
-use Rattle.std.specs.Prelude.{◌≡◌, ◌≤◌, ◌+◌, ◌-◌, ◌*◌, ◌^◌, ◌⊎◌, ◌++◌, ◌∷◌, ◌&&◌, ◌||◌, if◌then◌else◌, [], ℕ, Bool, false, List, Option, Some, None, eqb, leb, ltb, not, length, min, take, slice_get, slice_set}
+use Rattle.std.specs.Prelude.{◌≡◌, ◌≢◌, ◌≤◌, ◌<◌, ◌+◌, ◌-◌, ◌*◌, ◌^◌, ◌⊎◌, ◌++◌, ◌∷◌, ◌&&◌, ◌||◌, if◌then◌else◌, [], ⊤, ℕ, Bool, false, List, Option, Some, None, eqb, leb, ltb, not, length, min, take, slice_get, slice_set}
 use Rattle.std.specs.List.{remove}
 use Rattle.repo_many.specs.declared.large_frames.LargeFrame.{LargeFrame}
 use Rattle.repo_many.specs.declared.large_frames.LargeFrames.{LargeFrames}
@@ -36,6 +36,26 @@ AreBounded limit fs given = (given ≤ length fs) × ((given ≤ 1) ⊎ (room_of
 -- the frames that have room take no more than there is, or only one has some
 abbrev pub IsBounded : LargeFrames → Type 0
 IsBounded q = AreBounded q.limit q.frames.items q.given
+
+-- none of these frames is of this place
+abbrev pub NoneOf : ℕ → List LargeFrame → Type 0
+NoneOf place [] = ⊤
+NoneOf place (f ∷ fs) = (f.place ≢ place) × NoneOf place fs
+
+-- no two of these frames are of one place
+abbrev pub AreApart : List LargeFrame → Type 0
+AreApart [] = ⊤
+AreApart (f ∷ fs) = NoneOf f.place fs × AreApart fs
+
+-- each of these frames is of one of so many places
+abbrev pub AreBelow : ℕ → List LargeFrame → Type 0
+AreBelow n [] = ⊤
+AreBelow n (f ∷ fs) = (f.place < n) × AreBelow n fs
+
+-- Of frames of so many places, no two of one place, in front of each stand fewer than there are places. As others come only behind all, each gets its turn
+-- after that of the others at most.
+abbrev pub QueuesAreFair : Type 0
+QueuesAreFair = (n : ℕ) (fs : List LargeFrame) → AreApart fs → AreBelow n fs → (place : ℕ) → index_of fs place < length fs → index_of fs place + 1 ≤ n
 
 -- how many bytes large frames may take together: as many as is said, or enough for the greatest of each connection
 abbrev pub limit_by : ℕ → Option ℕ → ℕ

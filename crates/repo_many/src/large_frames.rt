@@ -1,7 +1,7 @@
 //! Room for large frames: which connections read one, and which wait for that in a queue.
 
 ghost use Rattle.std.specs.Prelude.{◌≡◌, ◌≤◌, ◌<◌, ◌↔◌, ◌+◌, [], IsTrue, IfOk, OnOk, OnErr, ℕ, length};
-ghost use Rattle.repo_many.specs.Rooms.{IsBounded, given_to, HasLeft, index_of, is_free, is_slow, is_slow_at, next_minute, paced_at, queued, room_at, room_of, with_came};
+ghost use Rattle.repo_many.specs.Rooms.{AreApart, IsBounded, given_to, HasLeft, index_of, is_free, is_slow, is_slow_at, next_minute, paced_at, queued, room_at, room_of, with_came};
 
 use std::alloc::{AllocError, Global};
 
@@ -133,6 +133,7 @@ impl LargeFrames {
         ensures given { self.new.given ≡ self.old.given }
         ensures limit { self.new.limit ≡ self.old.limit }
         ensures bounded { IsBounded self.old → IsBounded self.new }
+        ensures apart { AreApart self.old.frames.items → AreApart self.new.frames.items }
     {
         self.wanted = self.is_wanted();
     }
@@ -151,6 +152,7 @@ impl LargeFrames {
         ensures given { self.new.given ≡ self.old.given }
         ensures limit { self.new.limit ≡ self.old.limit }
         ensures bounded { IsBounded self.old → IsBounded self.new }
+        ensures apart { AreApart self.old.frames.items → AreApart self.new.frames.items }
     {
         let index = index_of(self.frames.as_slice(), place);
         let is_free = self.is_free(index);
@@ -196,6 +198,7 @@ impl LargeFrames {
         ensures err { OnErr result ((self.new.frames.items ≡ self.old.frames.items) × (self.new.given ≡ self.old.given)) }
         ensures limit { self.new.limit ≡ self.old.limit }
         ensures bounded { IsBounded self.old → IsBounded self.new }
+        ensures apart { AreApart self.old.frames.items → AreApart self.new.frames.items }
     {
         let index = self.enqueue(frame)?;
         self.admit(index);
@@ -212,6 +215,7 @@ impl LargeFrames {
         ensures given { self.new.given ≡ self.old.given }
         ensures limit { self.new.limit ≡ self.old.limit }
         ensures bounded { IsBounded self.old → IsBounded self.new }
+        ensures apart { AreApart self.old.frames.items → AreApart self.new.frames.items }
     {
         let index = index_of(self.frames.as_slice(), place);
         if let Some(frame) = self.frames.get_mut(index) {
@@ -224,6 +228,7 @@ impl LargeFrames {
         ensures left { HasLeft self.old place self.new }
         ensures limit { self.new.limit ≡ self.old.limit }
         ensures bounded { IsBounded self.old → IsBounded self.new }
+        ensures apart { AreApart self.old.frames.items → AreApart self.new.frames.items }
     {
         let index = index_of(self.frames.as_slice(), place);
         if index >= self.frames.len() {

@@ -10,7 +10,8 @@
 //! one run of the store machine; and of each connection what its guest was given are the first bytes of the
 //! frames of the replies to its own requests. Each turn goes on in turn: a connection brings more only once each
 //! whole request that it brought was answered, and all replies were given. Where each went well, nothing was told
-//! as a fault. Who waits for room is overtaken by nobody (`LargeFrames`). Not promised, since a listener and a poll
+//! as a fault. Who waits for room is overtaken by nobody (`LargeFrames`), and waits
+//! for each other connection once at most ([`queues_are_fair`]). Not promised, since a listener and a poll
 //! tell no contract what they did: that anybody is served, and how long anybody waits.
 //!
 //! The definitions are those of `repo_hall`: `Halls.Hosted`, `HallLeads`, `Happenings.AreInTurn`; and in `specs/`
@@ -23,6 +24,7 @@ mod connections;
 mod doors;
 mod idling;
 mod large_frames;
+mod laws;
 mod manners;
 mod places;
 mod progress;
@@ -33,6 +35,7 @@ mod times;
 mod waits;
 mod wires;
 
+pub use laws::queues_are_fair;
 pub use manners::Manner;
 pub use servers::serve_many;
 pub use times::Served;
