@@ -118,13 +118,7 @@ fn serve_at_once<
     L: OpenListener + AsRawFd + Drop,
     S: Shelf,
     F: Write,
->(
-    rt: &R,
-    listener: L,
-    serving: Serving,
-    shelf: &mut S,
-    faults: &mut F,
-) -> Status
+>(rt: &R, listener: L, serving: Serving, shelf: &mut S, faults: &mut F) -> Status
 where
     L::Stream: Read + Write + OpenStream + AsRawFd,
     ensures hosted { S.honest shelf.old → ServesAtOnce L.Stream.remaining L.Stream.contents (S.store shelf.old) (S.failed shelf.old) (S.store shelf.new) (S.failed shelf.new) }
@@ -148,12 +142,7 @@ where
 }
 
 /// Serves the connections of a listener at once, if there is one.
-fn serve_given<
-    R: Net + Clock + AllocGlobal,
-    L: OpenListener + AsRawFd + Drop,
-    S: Shelf,
-    F: Write,
->(
+fn serve_given<R: Net + Clock + AllocGlobal, L: OpenListener + AsRawFd + Drop, S: Shelf, F: Write>(
     rt: &R,
     listener: Option<L>,
     serving: Serving,
@@ -183,13 +172,7 @@ fn serve_listener<
     A: Listen<Listener = L>,
     S: Shelf,
     F: Write,
->(
-    rt: &R,
-    arrivals: &mut A,
-    serving: Serving,
-    shelf: &mut S,
-    faults: &mut F,
-) -> Status
+>(rt: &R, arrivals: &mut A, serving: Serving, shelf: &mut S, faults: &mut F) -> Status
 where
     L::Stream: Read + Write + OpenStream + AsRawFd,
     ensures served { S.honest shelf.old → serving.at_once ≤ 1 → ServesInTurn A.accepts A.leaves A.Ends.hears A.Ends.says A.Ends.is_over serving.connections result
@@ -218,13 +201,7 @@ fn serve_shelf<
     A: Listen<Listener = L>,
     S: Shelf + Drop,
     F: Write,
->(
-    rt: &R,
-    arrivals: &mut A,
-    serving: Serving,
-    shelf: S,
-    faults: &mut F,
-) -> (Status, S)
+>(rt: &R, arrivals: &mut A, serving: Serving, shelf: S, faults: &mut F) -> (Status, S)
 where
     L::Stream: Read + Write + OpenStream + AsRawFd,
     ensures served { S.honest shelf → serving.at_once ≤ 1 → ServesInTurn A.accepts A.leaves A.Ends.hears A.Ends.says A.Ends.is_over serving.connections result.0
