@@ -106,7 +106,7 @@ def line(name, machines, how, clock, clients, server):
     shares = [MIB / it[3] for it in clients]
     processors = f"{sum(it[1] for it in clients):.2f} + {server[1]:.2f}"
     memory = f"{max(it[2] for it in clients) // 1024} + {server[2] // 1024}"
-    print(f"| {name} | {machines} | {how} | {clock:.2f} | {min(shares):.0f} to {max(shares):.0f} | {processors} | {memory} |", flush=True)
+    print(f"| {name} | {machines} | {how} | {clock:.2f} | {min(shares):.1f} to {max(shares):.1f} | {processors} | {memory} |", flush=True)
 
 
 def tried(made, top, folders, how):
