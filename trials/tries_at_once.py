@@ -3,6 +3,7 @@ import hashlib
 import os
 import re
 import resource
+import select
 import socket
 import threading
 from contextlib import suppress
@@ -137,6 +138,8 @@ def no_more_are_served_than_were_to_be_at_once(yard):
         for value, client in ((1, one), (2, other)):
             client.sendall(bytes.fromhex(TICKET))
             same(read_frame(client).hex(), token(value))
+        awaits(lambda: select.select([server.process.stderr], [], [], 0)[0], "it says so")
+        same(server.process.stderr.readline(), b"all places are taken\n")
         one.close()
         same(read_frame(third).hex(), token(3))
         fourth = server.connected(bytes.fromhex(TICKET))
@@ -144,7 +147,7 @@ def no_more_are_served_than_were_to_be_at_once(yard):
         same(read_frame(fourth).hex(), token(4))
         third.close()
         fourth.close()
-        same(server.end(), "1||all places are taken\n")
+        same(server.end(), "1||")
 
 
 @in_store
