@@ -21,11 +21,11 @@ use Rattle.repo_wire.specs.declared.messages.Ask.{Ask}
 use Rattle.repo_writing.specs.Putting.{PutsIndexOf}
 use Rattle.repo_writing.specs.Writing.{items_of}
 use Rattle.repo_backup.specs.Backing.{HasWritten}
-use Rattle.repo_backup.specs.BackupStates.{backup_task, IsUnderWay, GoesSo, IsSameWay, IsBegunAnew, BackupPuts, KnowsPut, IsDueNext, IsGoingOn}
+use Rattle.repo_backup.specs.BackupStates.{backup_task, IsUnderWay, GoesSo, BackupPuts, KnowsPut, IsDueNext, IsGoingOn}
 use Rattle.repo_backup.specs.Backups.{handed_to, left_in, Knows, WalksOn, BackupSends}
 use Rattle.repo_backup.specs.Items.{Feeding, Place, place_of, ItemFault, fed_part, fed_of, size_of}
 use Rattle.repo_backup.specs.Packings.{AimsOn}
-use Rattle.repo_backup.specs.PieceStates.{waits, HasBegun, PutsPack, PutsIndex, IsIdleAt, PutsSnapshotOf, LaysSo, large_end}
+use Rattle.repo_backup.specs.PieceStates.{IsSameWay, IsBegunAnew, waits, HasBegun, PutsPack, PutsIndex, IsIdleAt, PutsSnapshotOf, LaysSo, large_end}
 use Rattle.repo_session.specs.declared.outcomes.Outcome.{Outcome}
 use Rattle.repo_backup.specs.Pieces.{IsReady, LeavesRoom, PieceStands, Goes, EndsTooLarge, Refuses, Stays, WorkTakes, LeavesPacked, sealing_at}
 use Rattle.repo_backup.specs.Plans.{walked, left_fed, next_fed, behind, before, steps_left, LeadThrough}

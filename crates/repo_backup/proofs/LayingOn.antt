@@ -15,7 +15,7 @@ use Rattle.repo_backup.specs.Folders.{Folder}
 use Rattle.repo_backup.specs.Items.{Feeding, Place, place_of}
 use Rattle.repo_backup.specs.Packings.{AimsOn, IsSealedBy}
 use Rattle.repo_backup.specs.PartsMade.{left_count, closed_dir}
-use Rattle.repo_backup.specs.PieceBackups.{PieceKnows, PieceWants, PieceSends, PieceLaysOn}
+use Rattle.repo_backup.specs.PieceBackups.{PieceKnows, PieceRests, PieceSends, PieceLaysOn}
 use Rattle.repo_backup.specs.PieceRules.{piece_rule}
 use Rattle.repo_backup.specs.PieceStates.{piece_task, GoesBy, StandsAt, PutsPack, PutsIndex, KnowsPieces, IsPieceIdle, PieceWent, LaidAt, LaysSo}
 use Rattle.repo_index.specs.IndexText.{facts_in}
@@ -178,7 +178,7 @@ went_at facts Went.Nothing b work es h k laid room = k
 -- what is due next is sent
 pub laid_sends : (old mid new : PieceJob) (holding : Holding) (went : Went) (step : Step) → mid.catalog ≡ old.catalog → PieceLaysOn went old mid → ((b : PieceBacking) → mid.backing ≡ Some b → went ≡ Went.On → b.work.parts ≡ None)
     → PieceSends (λ facts b es. PieceWent facts went b es) mid holding step new → (b : PieceBacking) (es : Trace) → IsWorking (piece_task holding.who) holding.token es → old.backing ≡ Some b → IsPieceIdle old.catalog.lookup b es
-    → length (facts_in b.waiting) < facts_limit → MayGoOn piece_rule holding.who (PieceKnows new) (PieceWants new) es step
+    → length (facts_in b.waiting) < facts_limit → MayGoOn piece_rule holding.who (PieceKnows new) (PieceRests new) es step
 laid_sends old mid new holding went step catalog lays laid sends b es working is h room =
     let k = lays b is in
     let c : PieceBacking = record b { work = k.0.work } in

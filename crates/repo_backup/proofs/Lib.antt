@@ -44,4 +44,5 @@ pub mod FolderOrder
 pub mod PartLists
 pub mod PartLaying
 pub mod LayingOn
+pub mod Unreading
 pub mod Bounding

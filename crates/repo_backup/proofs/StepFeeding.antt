@@ -50,7 +50,7 @@ gave_up fed_end xs ys h = tt
 gave_up fed_abandon xs ys h = absurd h
 
 -- items that lead to the same place lead on as well
-same_on : (left : List Fed) (xs ys : Feeding) → place_of xs ≡ place_of ys → AreTaken ys → (NobodyGaveUp xs → NobodyGaveUp ys) → AreTaken (fed_on left xs) → (place_of (fed_on left xs) ≡ place_of (fed_on left ys)) × AreTaken (fed_on left ys)
+pub same_on : (left : List Fed) (xs ys : Feeding) → place_of xs ≡ place_of ys → AreTaken ys → (NobodyGaveUp xs → NobodyGaveUp ys) → AreTaken (fed_on left xs) → (place_of (fed_on left xs) ≡ place_of (fed_on left ys)) × AreTaken (fed_on left ys)
 same_on [] xs ys same taken kept h = (same, taken)
 same_on (item ∷ left) xs ys same taken kept h =
     let front = taken_front left (item ∷ xs) h in
@@ -67,7 +67,7 @@ grow_twice (Some f) x y z h may =
     (omega (arith, n, may), omega (arith, n, may, length-append f.bytes x))
 
 -- a piece may be fed in two parts
-lead_split : (entries : List Entry) (part rest piece : List ℕ) (left : List Fed) (items : Feeding) → part ++ rest ≡ piece → LeadThrough entries (fed_bytes piece ∷ left) items → LeadThrough entries (fed_bytes rest ∷ left) (fed_bytes part ∷ items)
+pub lead_split : (entries : List Entry) (part rest piece : List ℕ) (left : List Fed) (items : Feeding) → part ++ rest ≡ piece → LeadThrough entries (fed_bytes piece ∷ left) items → LeadThrough entries (fed_bytes rest ∷ left) (fed_bytes part ∷ items)
 lead_split entries part rest piece left items is h =
     let p = place_of items in
     let whole = fed_bytes piece ∷ items in

@@ -60,24 +60,6 @@ abbrev pub GoesSo : List Fact → PieceWork → List Fed → Went → PieceWork 
 GoesSo facts old was went new left = (entries : List Entry) (b : PieceBacking) (puts next : List Put) (es : Trace) → b.work ≡ old → IsUnderWay entries facts b was puts next es
     → WentSo entries facts went (record b { work = new }) left puts next es
 
--- it goes by the same config
-pub record IsSameWay (old new : PieceWork) : Type 0 where
-  pub params : new.walk.params ≡ old.walk.params
-  pub version : new.walk.version ≡ old.walk.version
-  pub target : new.packing.packer.target ≡ old.packing.packer.target
-
--- it is begun anew, by the same config
-pub record IsBegunAnew (old new : PieceBacking) : Type 0 where
-  pub params : new.work.walk.params ≡ old.work.walk.params
-  pub version : new.work.walk.version ≡ old.work.walk.version
-  pub aim : new.work.packing.packer.target ≡ old.work.packing.packer.target
-  pub aims : new.work.packing.packer.writer.target ≡ old.work.packing.packer.target.bytes
-  pub stands : (facts : List Fact) → PieceStands new.work facts at_beginning [] []
-  pub ready : IsReady new.work
-  pub waiting : new.waiting ≡ []
-  pub listed : new.listed ≡ None
-  pub counted : AreCounts new.counts []
-
 -- ---- what is pending
 
 -- some items were fed, and a pack is being put, or an index

@@ -16,7 +16,7 @@ use Rattle.repo_wire.specs.declared.messages.Request.{Request}
 use Rattle.repo_wire.specs.declared.messages.Say.{Say}
 use Rattle.repo_backup.specs.Items.{AreTaken, ItemFault, place_of, fed_part, fed_of, size_of}
 use Rattle.repo_backup.specs.PieceRules.{piece_rule}
-use Rattle.repo_backup.specs.PieceStates.{piece_task, KnowsPieceReading, KnowsPieces, WantsPieces, IsPieceDue, LaysSo}
+use Rattle.repo_backup.specs.PieceStates.{piece_task, CanUnread, KnowsPieceReading, KnowsPieces, WantsPieces, IsPieceDue, LaysSo}
 use Rattle.repo_backup.specs.Pieces.{IsReady}
 use Rattle.repo_backup.specs.declared.items.FeedError.{FeedError}
 use Rattle.repo_backup.specs.declared.items.Item.{Item}
@@ -41,8 +41,16 @@ PieceKnows j ask es = KnowsPieces j.catalog j.backing ask es
 abbrev pub PieceReads : PieceJob → Ask → Trace → Type 0
 PieceReads j ask es = KnowsPieceReading j.catalog j.backing ask es
 
+-- it stands where it wants input, but for what the last reading can be taken back to
+abbrev pub PieceRests : PieceJob → Trace → Type 0
+PieceRests j es = WantsPieces j.catalog j.backing es
+
+-- the last reading can be taken back
+abbrev pub PieceUnreads : PieceJob → Trace → Type 0
+PieceUnreads j es = (b : PieceBacking) → j.backing ≡ Some b → CanUnread j.catalog j.noted b.work es
+
 abbrev pub PieceWants : PieceJob → Trace → Type 0
-PieceWants j es = WantsPieces j.catalog j.backing es
+PieceWants j es = PieceRests j es × PieceUnreads j es
 
 -- its work can take an item
 abbrev pub IsPieceOpen : PieceJob → Type 0
@@ -59,7 +67,7 @@ PieceHeeds Knew old holding ask say step = HeedsReply piece_rule holding (Knew o
 -- what it does next, after each trace where this holds of its work
 abbrev pub PieceSends : (List Fact → PieceBacking → Trace → Type 0) → PieceJob → Holding → Step → PieceJob → Type 0
 PieceSends Due old holding step new = (b : PieceBacking) (es : Trace) → IsWorking (piece_task holding.who) holding.token es → old.backing ≡ Some b → Due old.catalog.lookup b es
-    → MayGoOn piece_rule holding.who (PieceKnows new) (PieceWants new) es step
+    → MayGoOn piece_rule holding.who (PieceKnows new) (PieceRests new) es step
 
 -- its work made parts and went so, and all else but that is the same
 abbrev pub PieceLaysOn : Went → PieceJob → PieceJob → Type 0

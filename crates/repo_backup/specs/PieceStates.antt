@@ -1,5 +1,5 @@
 -- What is known while a backup is fed items.
-use Rattle.std.specs.Prelude.{◌≡◌, ◌≢◌, ◌⊎◌, ◌<◌, ◌≤◌, ◌++◌, ◌∷◌, [], ℕ, zero, suc, true, false, List, length, Option, Some, None, Contains}
+use Rattle.std.specs.Prelude.{⊤, ◌≡◌, ◌≢◌, ◌⊎◌, ◌<◌, ◌≤◌, ◌++◌, ◌∷◌, [], ℕ, zero, suc, true, false, List, length, Option, Some, None, Contains}
 use Rattle.repo_name.specs.Limits.{blob_limit, facts_limit}
 use Rattle.repo_name.specs.Naming as naming
 use Rattle.repo_name.specs.declared.kinds.Kind.{Kind}
@@ -11,7 +11,7 @@ use Rattle.repo_pack.specs.PackLayout.{Item, item_of}
 use Rattle.repo_name.specs.declared.kinds.BlobKind.TheVariants.{Tree}
 use Rattle.repo_session.specs.Askers.{Asker, Holding}
 use Rattle.repo_session.specs.Order.{Task}
-use Rattle.repo_session.specs.Readings.{KnowsIndexes}
+use Rattle.repo_session.specs.Readings.{KnowsIndexes, HasNotedFacts}
 use Rattle.repo_session.specs.Traces.{Trace, fed_in, objects_put}
 use Rattle.repo_session.specs.declared.catalogs.Catalog.{Catalog}
 use Rattle.repo_session.specs.declared.jobs.Step.{Step}
@@ -141,6 +141,47 @@ KnowsPieces c backing ask es = KnowsPieceReading c backing ask es ⊎ KnowsPiece
 
 abbrev pub WantsPieces : Catalog → Option PieceBacking → Trace → Type 0
 WantsPieces c backing es = AtPieces backing (λ b. PieceWaits c.lookup b es)
+
+-- ---- what the last reading can be taken back to
+
+-- it goes by the same config
+pub record IsSameWay (old new : PieceWork) : Type 0 where
+  pub params : new.walk.params ≡ old.walk.params
+  pub version : new.walk.version ≡ old.walk.version
+  pub target : new.packing.packer.target ≡ old.packing.packer.target
+
+-- it is begun anew, by the same config
+pub record IsBegunAnew (old new : PieceBacking) : Type 0 where
+  pub params : new.work.walk.params ≡ old.work.walk.params
+  pub version : new.work.walk.version ≡ old.work.walk.version
+  pub aim : new.work.packing.packer.target ≡ old.work.packing.packer.target
+  pub aims : new.work.packing.packer.writer.target ≡ old.work.packing.packer.target.bytes
+  pub stands : (facts : List Fact) → PieceStands new.work facts at_beginning [] []
+  pub ready : IsReady new.work
+  pub waiting : new.waiting ≡ []
+  pub listed : new.listed ≡ None
+  pub counted : AreCounts new.counts []
+
+-- before the last reply of the reading came, which noted these facts: what is known by its request, and that nothing was fed
+pub record WasRead (c : Catalog) (noted : List Fact) (w : PieceWork) (ask : Ask) (es : Trace) : Type 0 where
+  pub old : Catalog
+  pub facts : HasNotedFacts old noted c
+  pub begun : PieceBacking
+  pub way : IsSameWay begun.work w
+  pub knows : KnowsIndexes old ask es
+  pub none : NothingFed begun es
+
+-- a page of names, or an object, is asked for
+abbrev pub IsListedOrGot : Ask → Type 0
+IsListedOrGot (Ask.List k after) = ⊤
+IsListedOrGot (Ask.Get k n) = ⊤
+IsListedOrGot ask = ⊥
+
+-- if the newest exchange is of the reading, it can be taken back by the facts that it noted
+abbrev pub CanUnread : Catalog → Option (List Fact) → PieceWork → Trace → Type 0
+CanUnread c noted w [] = ⊤
+CanUnread c None w (e ∷ es) = ¬ IsListedOrGot e.ask
+CanUnread c (Some noted) w (e ∷ es) = IsListedOrGot e.ask → WasRead c noted w e.ask es
 
 -- ---- what is sent next
 

@@ -4,13 +4,13 @@ ghost use Rattle.std.specs.Prelude.{◌≡◌, ◌++◌, [], true, List, Some, N
 ghost use Rattle.repo_pack.specs.PackLayout as layout;
 ghost use Rattle.repo_writing.specs.Sealing.{IsSealedOf};
 ghost use Rattle.repo_writing.specs.Writing.{AreCounts};
-ghost use Rattle.repo_backup.specs.BackupStates.{GoesSo, IsSameWay};
+ghost use Rattle.repo_backup.specs.BackupStates.{GoesSo};
 ghost use Rattle.repo_backup.specs.Items.{fed_of};
 ghost use Rattle.repo_backup.specs.Plans.{left_fed};
 ghost use Rattle.repo_backup.specs.declared.walks.Went.{Went};
 ghost use Rattle.repo_backup.specs.Packings.{AimsOn};
 ghost use Rattle.repo_backup.specs.Pieces.{IsReady, WorkTakes, LeavesPacked, LeavesRoom, ReopensAt, Refuses, Stays, sealing_at};
-ghost use Rattle.repo_backup.specs.PieceStates.{waits, IsNextPiece, LaysSo, large_end};
+ghost use Rattle.repo_backup.specs.PieceStates.{IsSameWay, waits, IsNextPiece, LaysSo, large_end};
 
 use crate::items::{FeedError, Item};
 use crate::piece_works::{PieceWork, Took};

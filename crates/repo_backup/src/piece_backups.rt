@@ -1,19 +1,20 @@
 //! The backup that is fed items.
 
-ghost use Rattle.std.specs.Prelude.{◌≡◌, ◌≢◌, ◌<◌, ◌↔◌, ◌∷◌, [], Some, IsTrue, IfOk, IfErr, IfSome, IfNone};
+ghost use Rattle.std.specs.Prelude.{◌≡◌, ◌≢◌, ◌<◌, ◌+◌, ◌↔◌, ◌∷◌, [], length, None, Some, IsTrue, IfOk, IfErr, IfSome, IfNone};
 ghost use Rattle.repo_wire.specs.declared.messages.Say.{Say};
 ghost use Rattle.repo_session.specs.Sessions.{who_in, next_in, ended_in};
-ghost use Rattle.repo_session.specs.Traces.{Trace, fed_in, feeding, silent};
+ghost use Rattle.repo_session.specs.Traces.{Exchange, Trace, fed_in, feeding, silent};
 ghost use Rattle.repo_session.specs.declared.outcomes.Outcome.{Outcome};
 ghost use Rattle.repo_backup.specs.Items.{AreTaken, ItemFault, place_of, IsCountOf, fed_of, fed_part, size_of};
 ghost use Rattle.repo_backup.specs.PieceBackups.{FitsPieces, IsHungry, PieceAwaits, PieceSupposes};
+ghost use Rattle.repo_backup.specs.PieceStates.{IsListedOrGot};
 ghost use Rattle.repo_backup.specs.declared.items.FeedError.{FeedError};
 
 use crate::items::{FeedError, Item};
 use crate::piece_jobs::PieceJob;
 use repo_name::Token;
 use repo_session::{Catalog, Client, Emission, End, Letter, Outcome, Session, Who};
-use repo_wire::{Reply, Request, Say};
+use repo_wire::{Ask, Reply, Request, Say};
 use std::alloc::{AllocError, Global};
 
 /// A client that backs up what it is fed, item by item: see [`Item`]. It wants input once every index was read, where
@@ -22,6 +23,24 @@ use std::alloc::{AllocError, Global};
 #[derive(Drop)]
 pub struct PieceBackup {
     session: Session<PieceJob>,
+}
+
+/// A copy of a request of the reading: for a page of names, or for an object. It takes no memory.
+fn copy_of(ask: &Ask) -> Option<Ask>
+    ensures some { IfSome result (λ copy. (copy ≡ ask.now) × IsListedOrGot copy) }
+    ensures none { IfNone result (¬ IsListedOrGot ask.now) }
+{
+    match ask {
+        Ask::List { kind, after } => Some(Ask::List {
+            kind: *kind,
+            after: *after,
+        }),
+        Ask::Get { kind, name } => Some(Ask::Get {
+            kind: *kind,
+            name: *name,
+        }),
+        _ => None,
+    }
 }
 
 impl PieceBackup {
@@ -33,6 +52,7 @@ impl PieceBackup {
         let job = PieceJob {
             backing: None,
             catalog: Catalog::new(alloc),
+            noted: None,
             alloc,
         };
         PieceBackup {
@@ -96,6 +116,36 @@ impl PieceBackup {
         ensures holder { self.new.session.head.holder ≡ self.old.session.head.holder }
     {
         self.session.retract(letter, say)
+    }
+
+    /// The request of the reading that is pending, if one is: for a page of indexes, or for an index. It takes no memory.
+    pub fn reading(&self) -> Option<Letter>
+        ensures some { IfSome result (λ letter. (next_in self.now.session ≡ Some letter) × (ended_in self.now.session ≡ None) × IsListedOrGot letter.ask) }
+        ensures none { IfNone result (ended_in self.now.session ≡ None → IfSome (next_in self.now.session) (λ request. ¬ IsListedOrGot request.ask)) }
+    {
+        if self.session.outcome().is_some() {
+            return None;
+        }
+        let request = self.session.pending()?;
+        let ask = copy_of(&request.ask)?;
+        Some(Letter::of(Request {
+            instance: request.instance,
+            sequence: request.sequence,
+            ask,
+        }))
+    }
+
+    /// Takes back the reply to the last request of the reading, which is pending again then, and all that it was fed since. It wants
+    /// input before. It takes no memory.
+    pub fn unread(&mut self, letter: Letter)
+        ensures fits { (e : Exchange) (es : Trace) → IsHungry self.old → letter.instance ≡ (who_in self.old.session).instance → letter.sequence ≡ length es + 1 → letter.ask ≡ e.ask → IsListedOrGot e.ask
+            → FitsPieces self.old (e ∷ es) → FitsPieces self.new es × (fed_in es ≡ []) }
+        ensures next { next_in self.new.session ≡ Some letter }
+        ensures ended { ended_in self.new.session ≡ ended_in self.old.session }
+        ensures holder { self.new.session.head.holder ≡ self.old.session.head.holder }
+    {
+        self.session.job.unread();
+        self.session.head.line.next = Some(letter);
     }
 
     /// The token of its lock, from its ticket on.

@@ -1,6 +1,6 @@
 //! The job of a backup that is fed items: what it makes of each reply, and of each item.
 
-ghost use Rattle.std.specs.Prelude.{◌≡◌, ◌≤◌, ◌↔◌, ℕ, None, Some, List, length, IsTrue, option_map, IfOk, IfErr, OnErr};
+ghost use Rattle.std.specs.Prelude.{◌≡◌, ◌≤◌, ◌↔◌, ◌∷◌, ℕ, None, Some, List, length, IsTrue, option_map, IfOk, IfErr, OnOk, OnErr};
 ghost use Rattle.repo_index.specs.IndexText.{facts_in};
 ghost use Rattle.repo_name.specs.Limits.{facts_limit};
 ghost use Rattle.repo_name.specs.declared.names.Name.{Name};
@@ -10,10 +10,10 @@ ghost use Rattle.repo_wire.specs.declared.messages.Ask.{Ask};
 ghost use Rattle.repo_wire.specs.declared.messages.Say.{Say};
 ghost use Rattle.repo_session.specs.Askers.{Holding};
 ghost use Rattle.repo_session.specs.Jobs.{IsShortStep};
-ghost use Rattle.repo_session.specs.Traces.{Trace};
+ghost use Rattle.repo_session.specs.Traces.{Exchange, Trace};
 ghost use Rattle.repo_session.specs.declared.jobs.Step.{Step};
-ghost use Rattle.repo_backup.specs.PieceStates.{IsPieceDue, IsPieceDone, IsPieceFull, IsPieceIdle, IsPieceLarge, PieceWent, reopened_backing};
-ghost use Rattle.repo_backup.specs.PieceBackups.{PieceReplies, PieceHeeds, PieceSends, PieceBusy, PieceFeeds, PieceRefuses, PieceKnows, PieceReads, PieceLaysOn, IsPieceOpen, KeepsPut};
+ghost use Rattle.repo_backup.specs.PieceStates.{IsBegunAnew, IsListedOrGot, IsPieceDue, IsPieceDone, IsPieceFull, IsPieceIdle, IsPieceLarge, PieceWent, reopened_backing};
+ghost use Rattle.repo_backup.specs.PieceBackups.{PieceWants, PieceReplies, PieceHeeds, PieceSends, PieceBusy, PieceFeeds, PieceRefuses, PieceKnows, PieceReads, PieceLaysOn, IsPieceOpen, KeepsPut};
 ghost use Rattle.repo_backup.specs.Items.{IsCountOf};
 ghost use Rattle.repo_backup.specs.declared.items.FeedError.{FeedError};
 ghost use Rattle.repo_backup.specs.declared.walks.Went.{Went};
@@ -23,7 +23,7 @@ use crate::piece_backing::{PieceBacking, PieceNext};
 use crate::piece_works::{PieceWork, Took};
 use crate::sending::put_snapshot;
 use crate::walks::Went;
-use repo_index::{IndexText, PackFacts};
+use repo_index::{Facts, IndexText, PackFacts};
 use repo_name::{Kind, Name};
 use repo_session::{Came, Catalog, Emission, End, Holder, Job, Outcome, Step, Versions};
 use repo_tree::Config;
@@ -36,6 +36,8 @@ use std::alloc::{AllocError, Global};
 pub struct PieceJob {
     pub backing: Option<PieceBacking>,
     pub catalog: Catalog,
+    /// The facts that the last index brought, until something was put.
+    pub noted: Option<Facts>,
     pub alloc: Global,
 }
 
@@ -46,6 +48,7 @@ impl PieceJob {
         ensures busy { PieceBusy listed self.old result }
         ensures short { IsShortStep result }
         ensures catalog { self.new.catalog ≡ self.old.catalog }
+        ensures noted { self.new.noted ≡ self.old.noted }
     {
         let Some(backing) = &mut self.backing else {
             return Step::Away;
@@ -112,6 +115,7 @@ impl PieceJob {
         ensures laid { IfOk result (λ went. (b : PieceBacking) → self.new.backing ≡ Some b → went ≡ Went.On → b.work.parts ≡ None) }
         ensures err { OnErr result (PieceLaysOn Went.On self.old self.new) }
         ensures catalog { self.new.catalog ≡ self.old.catalog }
+        ensures noted { self.new.noted ≡ self.old.noted }
     {
         let Some(backing) = &mut self.backing else {
             return Ok(Went::Nothing);
@@ -125,6 +129,7 @@ impl PieceJob {
         ensures short { IfOk result IsShortStep }
         ensures err { OnErr result ((self.new ≡ self.old) × (went ≡ Went.On)) }
         ensures catalog { self.new.catalog ≡ self.old.catalog }
+        ensures noted { self.new.noted ≡ self.old.noted }
     {
         match went {
             Went::On => self.send_next(holder),
@@ -141,6 +146,7 @@ impl PieceJob {
         ensures short { IfOk result IsShortStep }
         ensures err { OnErr result (PieceLaysOn Went.On self.old self.new) }
         ensures catalog { self.new.catalog ≡ self.old.catalog }
+        ensures noted { self.new.noted ≡ self.old.noted }
     {
         if self.is_full() {
             return self.send_index(holder);
@@ -158,7 +164,10 @@ impl PieceJob {
         ensures err { OnErr result ((es : Trace) → PieceReads self.old ask.now es → PieceReads self.new ask.now es) }
     {
         match self.catalog.read_on(self.alloc, ask, say)? {
-            Came::All(_) => Ok(Step::Want),
+            Came::All(noted) => {
+                self.noted = Some(noted);
+                Ok(Step::Want)
+            }
             Came::Step(step) => Ok(step),
         }
     }
@@ -169,6 +178,7 @@ impl PieceJob {
         ensures short { IfOk result IsShortStep }
         ensures err { OnErr result (KeepsPut Kind.Pack self.old self.new) }
     {
+        self.noted = None;
         let Some(backing) = &mut self.backing else {
             return Ok(Step::Away);
         };
@@ -182,6 +192,7 @@ impl PieceJob {
         ensures short { IfOk result IsShortStep }
         ensures err { OnErr result (KeepsPut Kind.Index self.old self.new) }
     {
+        self.noted = None;
         let Some(backing) = &mut self.backing else {
             return Ok(Step::Away);
         };
@@ -237,6 +248,32 @@ impl PieceJob {
 }
 
 impl PieceJob {
+    /// Begins the work anew, by the same config. It takes no memory.
+    fn begin_again(&mut self)
+        ensures begun { (b : PieceBacking) → self.old.backing ≡ Some b → (c : PieceBacking) × (self.new.backing ≡ Some c) × IsBegunAnew b c }
+        ensures same { self.new ≡ record self.old { backing = self.new.backing } }
+    {
+        let Some(backing) = &self.backing else {
+            return;
+        };
+        let (params, version) = (backing.work.walk.params, backing.work.walk.version);
+        let target = backing.work.packing.packer.target;
+        let work = PieceWork::new(self.alloc, params, version, target);
+        self.backing = Some(PieceBacking::new(self.alloc, work));
+    }
+
+    /// Takes back the last reading, and all that it was fed since. It takes no memory.
+    pub fn unread(&mut self)
+        ensures { (e : Exchange) (es : Trace) → IsListedOrGot e.ask → PieceWants self.old (e ∷ es) → PieceReads self.new e.ask es }
+    {
+        self.begin_again();
+        if let Some(noted) = self.noted.take() {
+            self.catalog.take_back(&noted);
+        }
+    }
+}
+
+impl PieceJob {
     /// Takes an item: what it does then, and how many bytes of a piece were taken, none of another item. On an error it is as
     /// it was.
     pub fn feed(&mut self, holder: &Holder, item: Item) -> Result<(Step, usize), FeedError>
@@ -285,7 +322,9 @@ impl PieceJob {
         ensures short { IfOk result IsShortStep }
         ensures err { IfErr result (λ e. e ≡ FeedError.Memory) }
         ensures backing { OnErr result (self.new.backing ≡ option_map reopened_backing self.old.backing) }
+        ensures same { OnOk result (self.new ≡ self.old) }
         ensures catalog { self.new.catalog ≡ self.old.catalog }
+        ensures noted { self.new.noted ≡ self.old.noted }
     {
         match self.send_next(holder) {
             Ok(step) => Ok(step),

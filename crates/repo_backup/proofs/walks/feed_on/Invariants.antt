@@ -1,6 +1,7 @@
 -- Some first items were fed.
 use Rattle.std.proofs.Common.{◌≡◌, length, None}
-use Rattle.repo_backup.specs.BackupStates.{GoesSo, IsSameWay}
+use Rattle.repo_backup.specs.BackupStates.{GoesSo}
+use Rattle.repo_backup.specs.PieceStates.{IsSameWay}
 use Rattle.repo_backup.specs.Plans.{left_fed}
 use Rattle.repo_backup.specs.declared.walks.Went.{Went}
 use Rattle.repo_backup.proofs.walks.feed_on.Given as goal

@@ -1,6 +1,6 @@
 use Rattle.std.proofs.Common.{◌≡◌, [], refl, sym, ap, subst, ◌∙◌}
 use Rattle.std.proofs.lemmas.Option.{same_Some}
-use Rattle.repo_backup.specs.BackupStates.{IsBegunAnew}
+use Rattle.repo_backup.specs.PieceStates.{IsBegunAnew}
 use Rattle.repo_backup.specs.Pieces.{PieceStands, IsReady, at_beginning}
 use Rattle.repo_backup.proofs.backups.Backup.begin_again.Goals as goal
 

@@ -11,6 +11,7 @@ use Rattle.repo_backup.specs.declared.piece_backing.PieceBacking.{PieceBacking}
 use Rattle.repo_backup.specs.declared.walks.Went.{Went}
 use Rattle.repo_backup.proofs.LayingOn.{index_kept}
 use Rattle.repo_backup.proofs.PieceStepping.{piece_known, index_is_put, turns_on}
+use Rattle.repo_backup.proofs.Unreading.{unreads_none, wants_more}
 use Rattle.repo_backup.proofs.piece_jobs.PieceJob.index_done.Goals as goal
 
 pub returns-in-Ok-clause-ok : goal.returns-in-Ok-clause-ok
@@ -24,7 +25,9 @@ returns-in-Ok-clause-ok c = λ token n x es working obeys asked.
     let k = piece_known old.catalog old.backing token Kind.Index n x es asked.knows in
     let h : PutsIndex facts a x (fed_in es) es = subst (λ (b : PieceBacking). PutsIndex facts b x (fed_in es) es) (same_Some k.0 a (sym k.1 ∙ c.in-Some.is)) k.2 in
     let done = index_is_put facts a d token n x (fed_in es) es h (ap (λ b. b.work) now) (ap (λ b. b.counts) now) (ap (λ b. b.waiting) now) (ap (λ b. b.listed) now) in
-    turns_on piece_rule c.args.holder.now.who (PieceKnows c.go_on.new.self) (PieceWants c.go_on.new.self) e es c.in-Ok.step refl (c.in-Ok.ensures.sends d (e ∷ es) working refl done)
+    let new = c.go_on.new.self in
+    turns_on piece_rule c.args.holder.now.who (PieceKnows new) (PieceWants new) e es c.in-Ok.step refl
+    (wants_more new c.args.holder.now.who (e ∷ es) c.in-Ok.step (unreads_none new e es c.go_on.ensures.noted (λ reads. reads)) (c.in-Ok.ensures.sends d (e ∷ es) working refl done))
 
 pub returns-in-Err-clause-err : goal.returns-in-Err-clause-err
 returns-in-Err-clause-err c = λ token n x es known.

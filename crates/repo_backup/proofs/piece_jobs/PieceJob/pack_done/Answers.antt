@@ -13,6 +13,7 @@ use Rattle.repo_backup.proofs.PackingLemmas.{on_any, on_err}
 use Rattle.repo_backup.proofs.LayingOn.{pack_kept}
 use Rattle.repo_backup.proofs.PieceStepping.{piece_known, pack_is_put, pack_noted, turns_on}
 use Rattle.repo_backup.proofs.Staging.{if_ok}
+use Rattle.repo_backup.proofs.Unreading.{unreads_none, wants_more}
 use Rattle.repo_backup.proofs.piece_jobs.PieceJob.pack_done.Goals as goal
 
 pub returns-clause-ok : goal.returns-clause-ok
@@ -26,7 +27,8 @@ returns-clause-ok c = if_ok _ _ c.go_on.result (λ (step : Step) sends token n x
     let k = piece_known old.catalog old.backing token Kind.Pack n x es asked.knows in
     let h : PutsPack facts a n x (fed_in es) es = subst (λ (b : PieceBacking). PutsPack facts b n x (fed_in es) es) (same_Some k.0 a (sym k.1 ∙ c.in-Some.is)) k.2 in
     let done = pack_is_put facts a d token n x (fed_in es) es h c.in_ok-note_put.ensures.work c.in_ok-note_put.ensures.counts c.in_ok-note_put.ensures.ok c.in_ok-note_put.ensures.listed in
-    turns_on piece_rule c.args.holder.now.who (PieceKnows new) (PieceWants new) e es step refl (sends d (e ∷ es) working refl done)) c.go_on.ensures.sends
+    turns_on piece_rule c.args.holder.now.who (PieceKnows new) (PieceWants new) e es step refl
+    (wants_more new c.args.holder.now.who (e ∷ es) step (unreads_none new e es c.go_on.ensures.noted (λ reads. reads)) (sends d (e ∷ es) working refl done))) c.go_on.ensures.sends
 
 pub returns-in_err-note_put-clause-err : goal.returns-in_err-note_put-clause-err
 returns-in_err-note_put-clause-err c = on_any _ c.from_residual.result (λ token n x es known.
