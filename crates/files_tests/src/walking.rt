@@ -27,7 +27,7 @@ fn walks_on<R: Files + AllocGlobal + Clone + Drop>(
     let mut left = wanted;
     for _ in 0..u64::MAX {
         match walk.next(&mut room)? {
-            Found::Dir(name) | Found::File(name) => left = behind(left, name.as_str(), "("),
+            Found::Dir | Found::File => left = behind(left, walk.name(), "("),
             Found::Bytes(count) => {
                 left = behind(left, str::from_utf8(&room[..count]).unwrap_or("?"), "");
             }

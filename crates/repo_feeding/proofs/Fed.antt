@@ -88,7 +88,7 @@ without_older (Ask.Delete t j n) whole older u = absurd u
 without_older (Ask.Upgrade t) whole older u = absurd u
 without_older Ask.Config whole older u = absurd u
 
-without_none : (a : Ask) (whole older : Trace) → ¬ IsUnlock a → without_unlock a whole older ≡ whole
+pub without_none : (a : Ask) (whole older : Trace) → ¬ IsUnlock a → without_unlock a whole older ≡ whole
 without_none (Ask.Unlock t) whole older none = absurd (none tt)
 without_none Ask.Ticket whole older none = refl
 without_none (Ask.Lock row) whole older none = refl

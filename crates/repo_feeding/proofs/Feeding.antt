@@ -1,6 +1,6 @@
 -- A backup that feeds itself goes on, item by item.
-use Rattle.std.specs.Prelude.{◌++◌, ⊤, IsSome, is_some, string_bytes}
-use Rattle.std.proofs.Common.{arith, ◌≡◌, ◌≢◌, ◌≤◌, ◌∷◌, ◌⊎◌, [], ℕ, Bool, true, false, List, length, take, drop, Option, Some, None, refl, sym, ap, subst, inl, inr, length-append, ◌∙◌}
+use Rattle.std.specs.Prelude.{◌++◌, ⊤, IsSome, is_some}
+use Rattle.std.proofs.Common.{arith, ◌≡◌, ◌≢◌, ◌≤◌, ◌+◌, ◌∷◌, ◌⊎◌, [], ℕ, Bool, true, false, List, length, take, drop, Option, Some, None, refl, sym, ap, subst, inl, inr, length-append, ◌∙◌}
 use Rattle.std.proofs.lemmas.Option.{same_Some}
 use Rattle.repo_name.specs.declared.kinds.Kind.{Kind}
 use Rattle.repo_name.specs.declared.tokens.Token.{Token}
@@ -23,20 +23,21 @@ use Rattle.repo_backup.specs.declared.items.Item.{Item}
 use Rattle.repo_feeding.specs.inner.Rooms.{Fills, IsItemOf, IsLessBy}
 use Rattle.repo_feeding.specs.declared.reasons.GivenUp.{GivenUp}
 use Rattle.repo_feeding.specs.declared.sources.Found.{Found}
-use Rattle.repo_backup.specs.Items.{fed_of, fed_part, size_of, NobodyGaveUp, MayTake, Place, after, place_of}
+use Rattle.repo_backup.specs.Items.{fed_of, fed_part, size_of, NobodyGaveUp, MayTake, Place, after, at_root, place_of}
 use Rattle.repo_backup.specs.PieceBackups.{PieceKnows, PieceWants, IsFreshPieces, FitsPieces, IsHungry, PieceAwaits, PieceSupposes}
 use Rattle.repo_backup.specs.PieceObedience.{pieces_obey}
 use Rattle.repo_backup.specs.PieceRules.{PieceAllows, PieceConcludes, WantsInput, WasGivenUp, piece_rule}
-use Rattle.repo_backup.specs.PieceStates.{piece_task}
+use Rattle.repo_backup.specs.PieceStates.{IsListedOrGot, piece_task}
 use Rattle.repo_backup.specs.declared.piece_backups.PieceBackup.{PieceBackup}
 use Rattle.repo_feeding.specs.FedObedience.{right_at, before_right}
 use Rattle.repo_feeding.specs.FedRules.{IsAsTold, IsOnTheWay, IsFedLate, AreWelcome}
-use Rattle.repo_feeding.specs.FedStates.{Feeder, IsFedRight, AreFedRight, HasCome, IsFed, IsWell, IsFedUpto, FitsFed, IsAhead, StandsFed, next_of, ended_of}
+use Rattle.repo_feeding.specs.FedStates.{Feeder, held_of, FeedsOn, IsFedRight, AreFedRight, HasCome, IsFed, IsWell, IsFedUpto, FitsFed, IsAhead, StandsFed, next_of, ended_of, token_of}
 use Rattle.repo_feeding.specs.Reasons.{IsNextItem, HasReason}
-use Rattle.repo_feeding.specs.Sources.{Told, whole_of, IsSound, IsUntouched, Comes}
+use Rattle.repo_feeding.specs.Sources.{Told, whole_of, fed_found, IsSound, IsUntouched, Comes}
 use Rattle.repo_feeding.specs.Unfed.{unfed}
+use Rattle.repo_feeding.specs.Unseen.{unfed_length}
 use Rattle.repo_feeding.proofs.Among.{before_exchanged}
-use Rattle.repo_feeding.proofs.Places.{not_over, on_the_way, over_more, clear_of, come_clear, come_part, comes_whole, comes_on, comes_told, comes_waiting, comes_next, next_part, fresh_on, less_first}
+use Rattle.repo_feeding.proofs.Places.{IsClear, IsWhole, not_over, on_the_way, over_more, clear_of, come_clear, come_part, comes_whole, comes_on, comes_told, comes_waiting, comes_next, next_part, fresh_on, less_first}
 
 -- a backup, what its source was told, what waits, whether it was given up, and the cause of that
 abbrev pub standing : PieceBackup → Option Told → List ℕ → Bool → (Place → Type 0) → Feeder
@@ -228,33 +229,38 @@ module _ (f : Feeder) (new : PieceBackup) (es fs : Trace) (hungry : IsHungry f.b
       let wants = hungry_wants f.backup fs hungry upto.fed.at in
       let p = place_of (fed_in fs) in
       let here = clear_of f.told p f.rest none (upto.come (inl hungry.1) wants.kept) in
-      let next = comes_on f.told item told p may comes here in
+      let next = comes_on f.told item told p wants.goes_on may comes here in
       fed_more f new es fs hungry upto.fed item told [] cause may on (comes_whole f.told (Some item) told comes) fits
-      (comes_told f.told item told p comes wants.goes_on next) (come_clear told (after p item) next) caused
+      (comes_told f.told item told p wants.goes_on comes here next) (come_clear told (after p item) next) caused
 
   -- what came comes next, where nothing waits
   pub found_next : (item : Fed) (told : Option Told) → f.rest ≡ [] → Comes f.told (Some item) told → IsNextItem (whole_of told) (place_of (fed_in fs)) item
   found_next item told none comes =
       let wants = hungry_wants f.backup fs hungry upto.fed.at in
-      comes_next f.told item told (place_of (fed_in fs)) comes (clear_of f.told (place_of (fed_in fs)) f.rest none (upto.come (inl hungry.1) wants.kept))
+      comes_next f.told item told (place_of (fed_in fs)) wants.goes_on comes (clear_of f.told (place_of (fed_in fs)) f.rest none (upto.come (inl hungry.1) wants.kept))
 
   -- the bytes that wait do
   pub rest_next : f.rest ≢ [] → IsNextItem (whole_of f.told) (place_of (fed_in fs)) (fed_bytes f.rest)
   rest_next some = let wants = hungry_wants f.backup fs hungry upto.fed.at in next_part f.told (place_of (fed_in fs)) f.rest some (upto.come (inl hungry.1) wants.kept)
+
+  -- nothing waits, and all that came was fed
+  pub hungry_clear : f.rest ≡ [] → IsClear f.told (place_of (fed_in fs))
+  hungry_clear none = let wants = hungry_wants f.backup fs hungry upto.fed.at in clear_of f.told (place_of (fed_in fs)) f.rest none (upto.come (inl hungry.1) wants.kept)
 
   -- no more is to come, and waits, than the source was made to give
   pub hungry_less : IsLessBy 0 f.told f.rest
   hungry_less = let wants = hungry_wants f.backup fs hungry upto.fed.at in less_first f.told (place_of (fed_in fs)) f.rest (upto.come (inl hungry.1) wants.kept)
 
 -- bytes came, where nothing waits
-pub bytes_found : (f : Feeder) (es fs : Trace) (bytes : List ℕ) (told : Option Told) (cause : Place → Type 0) → f.rest ≡ [] → Comes f.told (Some (fed_bytes bytes)) told → ((p : Place) → cause p) → IsFedUpto f es fs
+pub bytes_found : (f : Feeder) (es fs : Trace) (bytes : List ℕ) (told : Option Told) (cause : Place → Type 0) → IsHungry f.backup → f.rest ≡ [] → bytes ≢ [] → Comes f.told (Some (fed_bytes bytes)) told → ((p : Place) → cause p) → IsFedUpto f es fs
     → IsFedUpto (standing f.backup told bytes f.gave cause) es fs
-bytes_found f es fs bytes told cause none comes caused upto =
+bytes_found f es fs bytes told cause hungry none some comes caused upto =
+    let goes = (hungry_wants f.backup fs hungry upto.fed.at).goes_on in
     let p = place_of (fed_in fs) in
     let same = comes_whole f.told (Some (fed_bytes bytes)) told comes in
     record {
       fed = record { same = upto.fed.same; at = upto.fed.at; right = subst (λ whole. AreFedRight whole f.gave fs) (sym same) upto.fed.right; gone = upto.fed.gone };
-      come = λ unended kept. comes_waiting f.told bytes told p comes (clear_of f.told p f.rest none (upto.come unended kept));
+      come = λ unended kept. comes_waiting f.told bytes told p goes some comes (clear_of f.told p f.rest none (upto.come unended kept));
       caused = λ why. caused p;
     }
 
@@ -262,6 +268,15 @@ bytes_found f es fs bytes told cause none comes caused upto =
 pub fed_none : (f : Feeder) (new : PieceBackup) (es fs : Trace) (told : Option Told) (rest : List ℕ) (cause : Place → Type 0) → whole_of told ≡ whole_of f.told → FitsPieces new fs → IsFed f es fs
     → IsFed (standing new told rest f.gave cause) es fs
 fed_none f new es fs told rest cause same fits fed = record { same = fed.same; at = fits; right = subst (λ whole. AreFedRight whole f.gave fs) (sym same) fed.right; gone = fed.gone }
+
+-- nothing was fed, and what came waits
+pub still_found : (f : Feeder) (new : PieceBackup) (es fs : Trace) (told : Option Told) (rest : List ℕ) (cause : Place → Type 0) → told ≡ f.told → rest ≡ f.rest → ((p : Place) → cause p) → FitsPieces new fs → ended_in new.session ≡ ended_in f.backup.session → IsFedUpto f es fs
+    → IsFedUpto (standing new told rest f.gave cause) es fs
+still_found f new es fs told rest cause same waits caused fits ended upto = record {
+  fed = fed_none f new es fs told rest cause (ap whole_of same) fits upto.fed;
+  come = λ well kept. subst (λ o. HasCome o (place_of (fed_in fs)) rest) (sym same) (subst (λ bytes. HasCome f.told (place_of (fed_in fs)) bytes) (sym waits) (upto.come (subst (λ o. IsWell o) ended well) kept));
+  caused = λ why. caused (place_of (fed_in fs));
+}
 
 -- ---- one exchange more
 
@@ -326,38 +341,55 @@ reason_of f es fits is =
 -- ---- what was found
 
 -- where it is no other item, bytes were found
-pub found_none : (old : Option Told) (rest : List ℕ) (new : Option Told) (found : Found) → IsItemOf found None → Fills old rest new found → Comes old (Some (fed_bytes rest)) new
-found_none old rest new (Found.Bytes count) item h = h
-found_none old rest new (Found.Dir name) item h = absurd item
-found_none old rest new (Found.File name) item h = absurd item
-found_none old rest new Found.Close item h = absurd item
-found_none old rest new Found.End item h = absurd item
+pub found_none : (name : List ℕ) (old : Option Told) (rest : List ℕ) (new : Option Told) (found : Found) → IsItemOf name found None → Fills name old rest new found → (rest ≢ []) × Comes old (Some (fed_bytes rest)) new
+found_none name old rest new (Found.Bytes count) item h = h
+found_none name old rest new Found.Dir item h = absurd item
+found_none name old rest new Found.File item h = absurd item
+found_none name old rest new Found.Close item h = absurd item
+found_none name old rest new Found.End item h = absurd item
 
-pub fills_whole : (old : Option Told) (rest : List ℕ) (new : Option Told) (found : Found) → Fills old rest new found → whole_of new ≡ whole_of old
-fills_whole old rest new (Found.Bytes count) h = comes_whole old (Some (fed_bytes rest)) new h
-fills_whole old rest new (Found.Dir name) h = comes_whole old (Some (fed_dir (string_bytes name))) new h.1
-fills_whole old rest new (Found.File name) h = comes_whole old (Some (fed_file (string_bytes name))) new h.1
-fills_whole old rest new Found.Close h = comes_whole old (Some fed_close) new h.1
-fills_whole old rest new Found.End h = comes_whole old (Some fed_end) new h.1
+pub fills_whole : (name : List ℕ) (old : Option Told) (rest : List ℕ) (new : Option Told) (found : Found) → Fills name old rest new found → whole_of new ≡ whole_of old
+fills_whole name old rest new (Found.Bytes count) h = comes_whole old (Some (fed_bytes rest)) new h.1
+fills_whole name old rest new Found.Dir h = comes_whole old (Some (fed_dir name)) new h.1
+fills_whole name old rest new Found.File h = comes_whole old (Some (fed_file name)) new h.1
+fills_whole name old rest new Found.Close h = comes_whole old (Some fed_close) new h.1
+fills_whole name old rest new Found.End h = comes_whole old (Some fed_end) new h.1
 
 -- another item was found, which is fed whole
 pub record FoundOne (old : Option Told) (rest : List ℕ) (new : Option Told) (item : Fed) : Type 0 where
   pub none : rest ≡ []
   pub comes : Comes old (Some item) new
   pub on : GoesOn item
+  pub whole : IsWhole item
 
-one_found : (old : Option Told) (rest : List ℕ) (new : Option Told) (item : Item) (n : ℕ) (fed : Fed) → size_of item ≡ 0 → fed_of item ≡ fed → n ≤ size_of item → rest ≡ [] → Comes old (Some fed) new → GoesOn fed → FoundOne old rest new (fed_part n item)
-one_found old rest new item n fed size is few none comes on =
+one_found : (old : Option Told) (rest : List ℕ) (new : Option Told) (item : Item) (n : ℕ) (fed : Fed) → size_of item ≡ 0 → fed_of item ≡ fed → n ≤ size_of item → rest ≡ [] → Comes old (Some fed) new → GoesOn fed → IsWhole fed → FoundOne old rest new (fed_part n item)
+one_found old rest new item n fed size is few none comes on whole =
     let all : n ≡ size_of item = omega (arith, size, few) in
     let same : fed_part n item ≡ fed = ap (λ k. fed_part k item) all ∙ is in
-    record { none = none; comes = subst (λ x. Comes old (Some x) new) (sym same) comes; on = subst (λ x. GoesOn x) (sym same) on }
+    record { none = none; comes = subst (λ x. Comes old (Some x) new) (sym same) comes; on = subst (λ x. GoesOn x) (sym same) on; whole = subst (λ x. IsWhole x) (sym same) whole }
 
-pub found_some : (old : Option Told) (rest : List ℕ) (new : Option Told) (found : Found) (item : Item) (n : ℕ) → IsItemOf found (Some item) → Fills old rest new found → n ≤ size_of item → FoundOne old rest new (fed_part n item)
-found_some old rest new (Found.Bytes count) item n is h few = absurd (cc)
-found_some old rest new (Found.Dir name) item n is h few = one_found old rest new item n (fed_dir (string_bytes name)) is.0 is.1 few h.0 h.1 (λ items gone. gone)
-found_some old rest new (Found.File name) item n is h few = one_found old rest new item n (fed_file (string_bytes name)) is.0 is.1 few h.0 h.1 (λ items gone. gone)
-found_some old rest new Found.Close item n is h few = one_found old rest new item n fed_close is.0 is.1 few h.0 h.1 (λ items gone. gone)
-found_some old rest new Found.End item n is h few = one_found old rest new item n fed_end is.0 is.1 few h.0 h.1 (λ items gone. gone)
+pub found_some : (name : List ℕ) (old : Option Told) (rest : List ℕ) (new : Option Told) (found : Found) (item : Item) (n : ℕ) → IsItemOf name found (Some item) → Fills name old rest new found → n ≤ size_of item → FoundOne old rest new (fed_part n item)
+found_some name old rest new (Found.Bytes count) item n is h few = absurd (cc)
+found_some name old rest new Found.Dir item n is h few = one_found old rest new item n (fed_dir name) is.0 is.1 few h.0 h.1 (λ items gone. gone) tt
+found_some name old rest new Found.File item n is h few = one_found old rest new item n (fed_file name) is.0 is.1 few h.0 h.1 (λ items gone. gone) tt
+found_some name old rest new Found.Close item n is h few = one_found old rest new item n fed_close is.0 is.1 few h.0 h.1 (λ items gone. gone) tt
+found_some name old rest new Found.End item n is h few = one_found old rest new item n fed_end is.0 is.1 few h.0 h.1 (λ items gone. gone) tt
+
+-- another item than bytes is what was found
+pub item_found : (name : List ℕ) (found : Found) (item : Item) → IsItemOf name found (Some item) → fed_of item ≡ fed_found name [] found
+item_found name (Found.Bytes count) item is = absurd (cc)
+item_found name Found.Dir item is = is.1
+item_found name Found.File item is = is.1
+item_found name Found.Close item is = is.1
+item_found name Found.End item is = is.1
+
+-- what was found, and isn't bytes, may wait
+pub item_held : (name : List ℕ) (found : Found) (item : Item) → IsItemOf name found (Some item) → held_of name (Some found) ≡ Some (fed_found name [] found)
+item_held name (Found.Bytes count) item is = absurd (cc)
+item_held name Found.Dir item is = refl
+item_held name Found.File item is = refl
+item_held name Found.Close item is = refl
+item_held name Found.End item is = refl
 
 pub some_is : {A : Type 0} (o : Option A) → IsSome o → is_some o ≡ true
 some_is None h = absurd (cc)
@@ -388,13 +420,13 @@ not_stored f es name blobs bytes fits is gave =
 pub no_reason : (f : Feeder) (es fs : Trace) → IsHungry f.backup → IsFed f es fs → f.gave ≢ true
 no_reason f es fs hungry fed gave = nobody_gone (fed_in fs) (hungry_wants f.backup fs hungry fed.at).kept (fed.gone gave).0
 
-module _ {E : Type 0} (failed : E → Type 0) (whole : Option (List Fed)) where
+module _ {E : Type 0} (failed : E → Type 0) (rewinds : Type 0) (whole : Option (List Fed)) where
   -- where there is no reason its source hasn't failed
-  pub sound_of : (p : Place) (given_up : Option (GivenUp E)) → is_some given_up ≢ true → HasReason failed whole p given_up → IsSound failed
+  pub sound_of : (p : Place) (given_up : Option (GivenUp E)) → is_some given_up ≢ true → HasReason failed rewinds whole p given_up → IsSound failed
   sound_of p None none h = h
   sound_of p (Some reason) none h = absurd (none refl)
 
-  pub reason_so : (given_up : Option (GivenUp E)) → is_some given_up ≢ true → IsSound failed → (p : Place) → HasReason failed whole p given_up
+  pub reason_so : (given_up : Option (GivenUp E)) → is_some given_up ≢ true → IsSound failed → (p : Place) → HasReason failed rewinds whole p given_up
   reason_so None none h p = h
   reason_so (Some reason) none h p = absurd (none refl)
 
@@ -419,6 +451,68 @@ ahead_on f b new request es none supposes fits goes holder whole =
       right = subst (λ w. AreFedRight w false fits.fs) (sym whole) k.1;
       more = up.0;
       upto = up.1;
+    }
+
+-- with more that was fed it is ahead still
+pub ahead_fed : (f new : Feeder) (request : Request) (es : Trace) → FeedsOn f new → new.backup.session.head.holder ≡ f.backup.session.head.holder → whole_of new.told ≡ whole_of f.told → IsAhead f request es → IsAhead new request es
+ahead_fed f new request es goes holder whole h =
+    let up = goes (silent request.ask Say.Done ∷ es) h.more h.upto in
+    record {
+      fs = h.fs;
+      same = h.same;
+      awaited = subst (λ (x : Holding). IsAwaited piece_rule x request h.fs) (sym holder) h.awaited;
+      right = subst (λ w. AreFedRight w false h.fs) (sym whole) h.right;
+      more = up.0;
+      upto = up.1;
+    }
+
+-- while it is ahead of a reply, more may be fed
+pub stands_ahead : (f new : Feeder) (awaited : Option Request) (es : Trace) → IsSome awaited → FeedsOn f new → new.backup.session.head.holder ≡ f.backup.session.head.holder → whole_of new.told ≡ whole_of f.told → StandsFed f awaited es → StandsFed new awaited es
+stands_ahead f new None es some goes holder whole stands = absurd (cc)
+stands_ahead f new (Some request) es some goes holder whole stands = ahead_fed f new request es goes holder whole stands
+
+-- and that isn't seen
+pub next_ahead : (b c : PieceBackup) (awaited : Option Request) → IsSome awaited → next_of b awaited ≡ next_of c awaited
+next_ahead b c None some = absurd (cc)
+next_ahead b c (Some request) some = refl
+
+pub ended_ahead : (b c : PieceBackup) (awaited : Option Request) → IsSome awaited → ended_of b awaited ≡ ended_of c awaited
+ended_ahead b c None some = absurd (cc)
+ended_ahead b c (Some request) some = refl
+
+pub token_ahead : (b c : PieceBackup) (awaited : Option Request) → IsSome awaited → b.session.head.holder ≡ c.session.head.holder → token_of b awaited ≡ token_of c awaited
+token_ahead b c None some holder = absurd (cc)
+token_ahead b c (Some request) some holder = ap (λ (h : Holding). Some h.token) holder
+
+-- ---- behind the reading
+
+-- the last reply of the reading is taken back, and what was fed since
+pub again_fed : (f : Feeder) (letter : Request) (b : PieceBackup) (told : Option Told) (cause : Place → Type 0) (e : Exchange) (es more : Trace) → IsHungry f.backup → letter.ask ≡ e.ask → IsListedOrGot e.ask → letter.sequence ≡ length es + 1
+    → ((x : Exchange) (fs : Trace) → letter.sequence ≡ length fs + 1 → letter.ask ≡ x.ask → IsListedOrGot x.ask → FitsPieces f.backup (x ∷ fs) → FitsPieces b fs × (fed_in fs ≡ []))
+    → next_in b.session ≡ Some letter → whole_of told ≡ whole_of f.told → ((p : Place) → HasCome f.told p f.rest → HasCome told at_root []) → ((p : Place) → cause p) → IsFedUpto f (e ∷ es) more
+    → FitsFed (standing b told [] f.gave cause) es
+again_fed f letter b told cause e es [] hungry ask reads sequence back next whole come caused upto = let same = upto.fed.same in absurd (cc)
+again_fed f letter b told cause e es (x ∷ fs) hungry ask reads sequence back next whole come caused upto =
+    let same : giving x.ask x.say x.emitted ∷ unfed fs ≡ e ∷ es = upto.fed.same in
+    let older : unfed fs ≡ es = cc in
+    let first : giving x.ask x.say x.emitted ≡ e = cc in
+    let asks : x.ask ≡ e.ask = ap (λ (y : Exchange). y.ask) first in
+    let k = back x fs (omega (arith, sequence, ap length older, unfed_length fs)) (ask ∙ sym asks) (subst IsListedOrGot (sym asks) reads) upto.fed.at in
+    let wants = hungry_wants f.backup (x ∷ fs) hungry upto.fed.at in
+    let here = come (place_of (fed_in (x ∷ fs))) (upto.come (inl hungry.1) wants.kept) in
+    record {
+      fs = fs;
+      upto = record {
+        fed = record {
+          same = older;
+          at = k.0;
+          right = subst (λ w. AreFedRight w f.gave fs) (sym whole) upto.fed.right.1;
+          gone = λ gave. absurd (nobody_gone (fed_in (x ∷ fs)) wants.kept (upto.fed.gone gave).0);
+        };
+        come = λ well kept. subst (λ items. HasCome told (place_of items) []) (sym k.1) here;
+        caused = λ why. caused (place_of (fed_in fs));
+      };
+      full = λ now. (let none = now.0 in absurd (cc));
     }
 
 -- while a put is pending it tells its token
@@ -479,3 +573,20 @@ well_before old new stays well = by (ended_in old.session) refl
     by : (o : Option Outcome) → ended_in old.session ≡ o → IsWell (ended_in old.session)
     by None is = inl is
     by (Some outcome) is = subst (λ o. IsWell o) (stays outcome is ∙ sym is) well
+
+-- if it hasn't ended once it went on, it hadn't before
+pub unended_before : (old new : PieceBackup) → ((outcome : Outcome) → ended_in old.session ≡ Some outcome → ended_in new.session ≡ Some outcome) → ended_in new.session ≡ None → ended_in old.session ≡ None
+unended_before old new stays none = by (ended_in old.session) refl
+  where
+    by : (o : Option Outcome) → ended_in old.session ≡ o → ended_in old.session ≡ None
+    by None is = is
+    by (Some outcome) is = let some = stays outcome is in absurd (cc)
+
+-- what isn't there
+pub nothing_there : {A : Type 0} (o : Option A) → ((a : A) → o ≢ Some a) → o ≡ None
+nothing_there None other = refl
+nothing_there (Some a) other = absurd (other a refl)
+
+pub none_given : {A : Type 0} (o : Option A) → is_some o ≢ true → o ≡ None
+none_given None other = refl
+none_given (Some a) other = absurd (other refl)

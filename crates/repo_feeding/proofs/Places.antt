@@ -1,13 +1,13 @@
 -- Where what comes from a source leads.
-use Rattle.std.specs.Prelude.{◌-◌, ◌^◌, ⊤}
+use Rattle.std.specs.Prelude.{◌*◌, ◌-◌, ◌^◌, ⊤}
 use Rattle.std.proofs.Common.{arith, ◌≡◌, ◌≢◌, ◌≤◌, ◌+◌, ◌++◌, ◌∷◌, [], ℕ, true, false, List, length, take, drop, Option, Some, None, refl, sym, ap, subst, inl, inr, append-nil, append_assoc, length-append, ◌∙◌}
 use Rattle.std.proofs.lemmas.List.{length-drop, take-append-drop}
 use Rattle.repo_session.specs.Feeds.{Fed, fed_dir, fed_file, fed_bytes, fed_close, fed_end, fed_abandon}
 use Rattle.repo_backup.specs.Items.{FileSoFar, MayGrow, MayTake, Place, at_root, with_more, closed, after, place_of}
 use Rattle.repo_feeding.specs.FedRules.{IsAsTold, IsOnTheWay}
-use Rattle.repo_feeding.specs.FedStates.{HasCome}
+use Rattle.repo_feeding.specs.FedStates.{HasCome, WasRead}
 use Rattle.repo_feeding.specs.Reasons.{IsNextItem, IsEndless}
-use Rattle.repo_feeding.specs.Sources.{Told, whole_of, IsUntouched, Comes, IsTakenAt, AreTakenFrom, IsAt, IsWithin, leads, count_of, count_in}
+use Rattle.repo_feeding.specs.Sources.{Told, EndsThere, IsSpent, whole_of, told_with, Rewinds, rest_then, ComesFirst, ComeFirst, IsUntouched, Comes, AreTakenFrom, IsAt, leads, count_of, count_in}
 use Rattle.repo_feeding.specs.inner.Rooms.{Lessens, IsLessBy}
 
 -- ---- bytes
@@ -27,11 +27,6 @@ none_more (Some f) = ap (λ (bytes : List ℕ). Some (record { name = f.name; by
 -- no bytes lead nowhere else
 pub nothing_more : (p : Place) → after p (fed_bytes []) ≡ p
 nothing_more p = ap (λ (file : Option FileSoFar). record { entries = p.entries; path = p.path; file = file; over = p.over }) (none_more p.file)
-
--- where some bytes may come behind others, all of them may come as one piece
-grown : (file : Option FileSoFar) (a b : List ℕ) → MayGrow (with_more a file) b → MayGrow file (a ++ b)
-grown None a b h = absurd h
-grown (Some f) a b h = omega (arith, h, length-append f.bytes a, length-append a b)
 
 -- ---- the end
 
@@ -66,6 +61,68 @@ pub not_over : (whole : Option (List Fed)) (p : Place) → p.over ≡ false → 
 not_over None p goes = tt
 not_over (Some whole) p goes = λ over. absurd (cc)
 
+-- ---- what comes first
+
+-- it is no piece of bytes, which comes in parts
+abbrev pub IsWhole : Fed → Type 0
+IsWhole (fed_bytes bytes) = ⊥
+IsWhole item = ⊤
+
+first_whole : (item : Fed) (coming then : List Fed) → IsWhole item → ComesFirst item coming then → coming ≡ item ∷ then
+first_whole (fed_dir name) coming then is first = first
+first_whole (fed_file name) coming then is first = first
+first_whole (fed_bytes bytes) coming then is first = absurd is
+first_whole fed_close coming then is first = first
+first_whole fed_end coming then is first = first
+first_whole fed_abandon coming then is first = first
+
+-- it comes first where it is
+first_here : (item : Fed) (then : List Fed) → ComesFirst item (item ∷ then) then
+first_here (fed_dir name) then = refl
+first_here (fed_file name) then = refl
+first_here (fed_bytes bytes) then = ([], then, ap (λ all. fed_bytes all ∷ then) (sym (append-nil bytes)), refl)
+first_here fed_close then = refl
+first_here fed_end then = refl
+first_here fed_abandon then = refl
+
+rest_leads : (p : Place) (part rest : List ℕ) (later : List Fed) → leads (after p (fed_bytes (part ++ rest))) later ≡ leads (after p (fed_bytes part)) (rest_then rest later)
+rest_leads p part [] later = ap (λ bytes. leads (after p (fed_bytes bytes)) later) (append-nil part)
+rest_leads p part (b ∷ rest) later = ap (λ q. leads q later) (sym (bytes_joined p part (b ∷ rest)))
+
+-- all lead where the item and then the others do
+first_leads : (p : Place) (item : Fed) (coming then : List Fed) → ComesFirst item coming then → leads p coming ≡ leads (after p item) then
+first_leads p (fed_dir name) coming then first = ap (λ items. leads p items) first
+first_leads p (fed_file name) coming then first = ap (λ items. leads p items) first
+first_leads p (fed_bytes part) coming then (rest, later, is, left) = ap (λ items. leads p items) is ∙ rest_leads p part rest later ∙ ap (λ items. leads (after p (fed_bytes part)) items) (sym left)
+first_leads p fed_close coming then first = ap (λ items. leads p items) first
+first_leads p fed_end coming then first = ap (λ items. leads p items) first
+first_leads p fed_abandon coming then first = ap (λ items. leads p items) first
+
+come_leads : (p : Place) (items coming then : List Fed) → ComeFirst items coming then → leads p coming ≡ leads (leads p items) then
+come_leads p [] coming then is = ap (λ items. leads p items) is
+come_leads p (item ∷ items) coming then (mid, first, more) = first_leads p item coming mid first ∙ come_leads (after p item) items mid then more
+
+rest_ends : (part rest : List ℕ) (later : List Fed) → EndsThere (fed_bytes (part ++ rest) ∷ later) → EndsThere (rest_then rest later)
+rest_ends part [] later ends = ends
+rest_ends part (b ∷ rest) later ends = ends
+
+-- nothing is behind the end of the others either
+first_ends : (item : Fed) (coming then : List Fed) → ComesFirst item coming then → EndsThere coming → EndsThere then
+first_ends (fed_dir name) coming then first ends = subst EndsThere first ends
+first_ends (fed_file name) coming then first ends = subst EndsThere first ends
+first_ends (fed_bytes part) coming then (rest, later, is, left) ends = subst EndsThere (sym left) (rest_ends part rest later (subst EndsThere is ends))
+first_ends fed_close coming then first ends = subst EndsThere first ends
+first_ends fed_end coming then first ends = let none : then ≡ [] = subst EndsThere first ends in subst EndsThere (sym none) tt
+first_ends fed_abandon coming then first ends = subst EndsThere first ends
+
+come_ends : (items coming then : List Fed) → ComeFirst items coming then → EndsThere coming → EndsThere then
+come_ends [] coming then is ends = subst EndsThere is ends
+come_ends (item ∷ items) coming then (mid, first, more) ends = come_ends items mid then more (first_ends item coming mid first ends)
+
+come_behind : (a b coming mid then : List Fed) → ComeFirst a coming mid → ComeFirst b mid then → ComeFirst (a ++ b) coming then
+come_behind [] b coming mid then is more = subst (λ items. ComeFirst b items then) (sym is) more
+come_behind (item ∷ a) b coming mid then (next, first, rest) more = (next, first, come_behind a b next mid then rest more)
+
 -- ---- what came
 
 leads_behind : (a b : List Fed) (p : Place) → leads p (a ++ b) ≡ leads (leads p a) b
@@ -78,106 +135,170 @@ taken_behind (item ∷ a) b p first then = (first.0, taken_behind a b (after p i
 
 -- with what comes, a place leads where all leads
 at_leads : (whole : List Fed) (p : Place) (coming : List Fed) → IsAt whole p coming → leads p coming ≡ leads at_root whole
-at_leads whole p coming (before, is, taken, at) = ap (λ q. leads q coming) (sym at) ∙ sym (leads_behind before coming at_root) ∙ ap (λ items. leads at_root items) (sym is)
+at_leads whole p coming (before, come, taken, at) = ap (λ q. leads q coming) (sym at) ∙ sym (come_leads at_root before whole coming come)
+
+at_ends : (whole : List Fed) (p : Place) (coming : List Fed) → IsAt whole p coming → EndsThere whole → EndsThere coming
+at_ends whole p coming (before, come, taken, at) ends = come_ends before whole coming come ends
+
+-- before anything came
+at_first : (whole : List Fed) → IsAt whole at_root whole
+at_first whole = ([], refl, tt, refl)
 
 -- one item on, which may be taken
-at_on : (whole : List Fed) (p : Place) (item : Fed) (coming : List Fed) → IsTakenAt p item → IsAt whole p (item ∷ coming) → IsAt whole (after p item) coming
-at_on whole p item coming may (before, is, taken, at) = (
+at_on : (whole : List Fed) (p : Place) (item : Fed) (coming then : List Fed) → MayTake p item → ComesFirst item coming then → IsAt whole p coming → IsAt whole (after p item) then
+at_on whole p item coming then may first (before, come, taken, at) = (
   before ++ item ∷ [],
-  is ∙ sym (append_assoc before (item ∷ []) coming),
-  taken_behind before (item ∷ []) at_root taken (subst (λ q. IsTakenAt q item) (sym at) may, tt),
+  come_behind before (item ∷ []) whole coming then come (then, first, refl),
+  taken_behind before (item ∷ []) at_root taken (subst (λ q. MayTake q item) (sym at) may, tt),
   leads_behind before (item ∷ []) at_root ∙ ap (λ q. after q item) at,
 )
 
--- before any of a piece was fed
-within_first : (whole : List Fed) (p : Place) (bytes : List ℕ) (coming : List Fed) → IsAt whole p (fed_bytes bytes ∷ coming) → IsWithin whole p bytes coming
-within_first whole p bytes coming at = (p, [], at, inr refl, nothing_more p)
-
--- once all of it was
-within_last : (whole : List Fed) (p : Place) (coming : List Fed) → IsWithin whole p [] coming → IsAt whole p coming
-within_last whole p coming (q, part, at, may, is) =
-    let fed = subst (λ bytes. IsAt whole q (fed_bytes bytes ∷ coming)) (append-nil part) at in
-    subst (λ r. IsAt whole r coming) is (at_on whole q (fed_bytes part) coming may fed)
-
--- some more of it, which may be taken
-within_on : (whole : List Fed) (p : Place) (rest : List ℕ) (n : ℕ) (coming : List Fed) → MayTake p (fed_bytes (take n rest)) → IsWithin whole p rest coming → IsWithin whole (after p (fed_bytes (take n rest))) (drop n rest) coming
-within_on whole p rest n coming more (q, part, at, may, is) =
-    let same : (part ++ take n rest) ++ drop n rest ≡ part ++ rest = append_assoc part (take n rest) (drop n rest) ∙ ap (λ bytes. part ++ bytes) (take-append-drop n rest) in
-    let all = grown q.file part (take n rest) (subst (λ r. MayTake r (fed_bytes (take n rest))) (sym is) more) in
-    (q, part ++ take n rest, subst (λ bytes. IsAt whole q (fed_bytes bytes ∷ coming)) (sym same) at, inl all, sym (bytes_joined q part (take n rest)) ∙ ap (λ r. after r (fed_bytes (take n rest))) is)
-
--- what came, but for what waits, is on the way
+-- what came, except what waits, is on the way
 pub on_the_way : (told : Option Told) (p : Place) (rest : List ℕ) → HasCome told p rest → IsOnTheWay (whole_of told) p
 on_the_way None p rest h = tt
-on_the_way (Some told) p rest (inl (none, at)) = (told.coming, inl at)
-on_the_way (Some told) p rest (inr within) = (told.coming, inr (rest, within))
+on_the_way (Some told) p rest (ends, (here, at, read)) = (here, at)
 
 -- nothing waits here
 abbrev pub IsClear : Option Told → Place → Type 0
 IsClear None p = ⊤
-IsClear (Some told) p = IsAt told.whole p told.coming
+IsClear (Some told) p = EndsThere told.whole × IsAt told.whole p told.coming
+
+read_none : (bytes : List ℕ) (coming then : List Fed) → bytes ≡ [] → WasRead bytes coming then → coming ≡ then
+read_none bytes coming then none read = subst (λ b. WasRead b coming then) none read
+
+read_some : (bytes : List ℕ) (coming then : List Fed) → bytes ≢ [] → WasRead bytes coming then → ComesFirst (fed_bytes bytes) coming then
+read_some [] coming then some read = absurd (some refl)
+read_some (b ∷ bytes) coming then some read = read
+
+some_read : (bytes : List ℕ) (coming then : List Fed) → bytes ≢ [] → ComesFirst (fed_bytes bytes) coming then → WasRead bytes coming then
+some_read [] coming then some first = absurd (some refl)
+some_read (b ∷ bytes) coming then some first = first
 
 pub clear_of : (told : Option Told) (p : Place) (rest : List ℕ) → rest ≡ [] → HasCome told p rest → IsClear told p
 clear_of None p rest none h = tt
-clear_of (Some told) p rest none (inl (is, at)) = at
-clear_of (Some told) p rest none (inr within) = within_last told.whole p told.coming (subst (λ bytes. IsWithin told.whole p bytes told.coming) none within)
+clear_of (Some told) p rest none (ends, (here, at, read)) = (ends, subst (λ items. IsAt told.whole p items) (read_none rest here told.coming none read) at)
 
 pub come_clear : (told : Option Told) (p : Place) → IsClear told p → HasCome told p []
 come_clear None p h = tt
-come_clear (Some told) p at = inl (refl, at)
+come_clear (Some told) p (ends, at) = (ends, (told.coming, at, refl))
+
+-- what is left of some bytes that were read was read
+read_rest : (left rest : List ℕ) (later : List Fed) → WasRead left (rest_then (left ++ rest) later) (rest_then rest later)
+read_rest [] rest later = refl
+read_rest (b ∷ left) rest later = (rest, later, refl, refl)
 
 -- some bytes of those that wait are fed
 pub come_part : (told : Option Told) (p : Place) (rest : List ℕ) (n : ℕ) → rest ≢ [] → MayTake p (fed_bytes (take n rest)) → HasCome told p rest → HasCome told (after p (fed_bytes (take n rest))) (drop n rest)
 come_part None p rest n some may h = tt
-come_part (Some told) p rest n some may (inl (none, at)) = absurd (some none)
-come_part (Some told) p rest n some may (inr within) = inr (within_on told.whole p rest n told.coming may within)
+come_part (Some told) p rest n some may (ends, (here, at, read)) =
+    let first = read_some rest here told.coming some read in
+    let more = first.0 in
+    let later = first.1 in
+    let left = rest_then (drop n rest ++ more) later in
+    let whole : rest ++ more ≡ take n rest ++ (drop n rest ++ more) = ap (λ bytes. bytes ++ more) (sym (take-append-drop n rest)) ∙ append_assoc (take n rest) (drop n rest) more in
+    let on = at_on told.whole p (fed_bytes (take n rest)) here left may (drop n rest ++ more, later, first.2 ∙ ap (λ bytes. fed_bytes bytes ∷ later) whole, refl) at in
+    (ends, (left, on, subst (λ items. WasRead (drop n rest) left items) (sym first.3) (read_rest (drop n rest) more later)))
 
 -- those that wait come next
 pub next_part : (told : Option Told) (p : Place) (rest : List ℕ) → rest ≢ [] → HasCome told p rest → IsNextItem (whole_of told) p (fed_bytes rest)
 next_part None p rest some h = tt
-next_part (Some told) p rest some (inl (none, at)) = absurd (some none)
-next_part (Some told) p rest some (inr within) = (told.coming, inr (rest, some, refl, within))
+next_part (Some told) p rest some (ends, (here, at, read)) = (here, told.coming, at, read_some rest here told.coming some read)
 
 -- ---- what comes
 
 pub comes_whole : (old : Option Told) (came : Option Fed) (new : Option Told) → Comes old came new → whole_of new ≡ whole_of old
 comes_whole None came new h = ap whole_of h
-comes_whole (Some old) None new h = ap whole_of h
-comes_whole (Some old) (Some item) new h = ap whole_of h.1 ∙ ap (λ (whole : List Fed). Some whole) h.2
+comes_whole (Some old) came new h = ap whole_of h.1 ∙ ap (λ (whole : List Fed). Some whole) h.2
+
+-- if the items haven't ended, not all came
+unspent : (told : Told) (p : Place) → p.over ≡ false → IsAt told.whole p told.coming → ¬ IsSpent told
+unspent told p goes at (none, over) =
+    let there : leads at_root told.whole ≡ p = sym (at_leads told.whole p told.coming at) ∙ ap (λ items. leads p items) none in
+    let is : p.over ≡ true = ap (λ (q : Place). q.over) (sym there) ∙ over in
+    absurd (cc)
+
+-- what came then is the first of what was to come
+record CameFirst (old : Told) (item : Fed) (new : Option Told) : Type 0 where
+  now : Told
+  is : new ≡ Some now
+  whole : now.whole ≡ old.whole
+  first : ComesFirst item old.coming now.coming
+
+came_first : (old : Told) (item : Fed) (new : Option Told) (p : Place) → p.over ≡ false → Comes (Some old) (Some item) new → IsAt old.whole p old.coming → CameFirst old item new
+came_first old item new p goes (now, is, whole, inl spent) at = absurd (unspent old p goes at spent)
+came_first old item new p goes (now, is, whole, inr first) at = record { now = now; is = is; whole = whole; first = first }
 
 -- an item that may be taken
-pub comes_on : (old : Option Told) (item : Fed) (new : Option Told) (p : Place) → MayTake p item → Comes old (Some item) new → IsClear old p → IsClear new (after p item)
-comes_on None item new p may h here = subst (λ o. IsClear o (after p item)) (sym h) tt
-comes_on (Some old) item new p may (now, is, whole, coming, last) here =
-    let at : IsAt now.whole p (item ∷ now.coming) = subst (λ items. IsAt items p (item ∷ now.coming)) (sym whole) (subst (λ items. IsAt old.whole p items) coming here) in
-    subst (λ o. IsClear o (after p item)) (sym is) (at_on now.whole p item now.coming (inl may) at)
+pub comes_on : (old : Option Told) (item : Fed) (new : Option Told) (p : Place) → p.over ≡ false → MayTake p item → Comes old (Some item) new → IsClear old p → IsClear new (after p item)
+comes_on None item new p goes may h here = subst (λ o. IsClear o (after p item)) (sym h) tt
+comes_on (Some old) item new p goes may h (ends, here) =
+    let c = came_first old item new p goes h here in
+    let at : IsAt c.now.whole p old.coming = subst (λ items. IsAt items p old.coming) (sym c.whole) here in
+    subst (λ o. IsClear o (after p item)) (sym c.is) (subst EndsThere (sym c.whole) ends, at_on c.now.whole p item old.coming c.now.coming may c.first at)
 
 -- bytes that came wait
-pub comes_waiting : (old : Option Told) (bytes : List ℕ) (new : Option Told) (p : Place) → Comes old (Some (fed_bytes bytes)) new → IsClear old p → HasCome new p bytes
-comes_waiting None bytes new p h here = subst (λ o. HasCome o p bytes) (sym h) tt
-comes_waiting (Some old) bytes new p (now, is, whole, coming, last) here =
-    let at : IsAt now.whole p (fed_bytes bytes ∷ now.coming) = subst (λ items. IsAt items p (fed_bytes bytes ∷ now.coming)) (sym whole) (subst (λ items. IsAt old.whole p items) coming here) in
-    subst (λ o. HasCome o p bytes) (sym is) (inr (within_first now.whole p bytes now.coming at))
+pub comes_waiting : (old : Option Told) (bytes : List ℕ) (new : Option Told) (p : Place) → p.over ≡ false → bytes ≢ [] → Comes old (Some (fed_bytes bytes)) new → IsClear old p → HasCome new p bytes
+comes_waiting None bytes new p goes some h here = subst (λ o. HasCome o p bytes) (sym h) tt
+comes_waiting (Some old) bytes new p goes some h (ends, here) =
+    let c = came_first old (fed_bytes bytes) new p goes h here in
+    let at : IsAt c.now.whole p old.coming = subst (λ items. IsAt items p old.coming) (sym c.whole) here in
+    subst (λ o. HasCome o p bytes) (sym c.is) (subst EndsThere (sym c.whole) ends, (old.coming, at, some_read bytes old.coming c.now.coming some c.first))
 
 -- what came comes next
-pub comes_next : (old : Option Told) (item : Fed) (new : Option Told) (p : Place) → Comes old (Some item) new → IsClear old p → IsNextItem (whole_of new) p item
-comes_next None item new p h here = subst (λ o. IsNextItem (whole_of o) p item) (sym h) tt
-comes_next (Some old) item new p (now, is, whole, coming, last) here =
-    let at : IsAt now.whole p (item ∷ now.coming) = subst (λ items. IsAt items p (item ∷ now.coming)) (sym whole) (subst (λ items. IsAt old.whole p items) coming here) in
-    subst (λ o. IsNextItem (whole_of o) p item) (sym is) (now.coming, inl at)
+pub comes_next : (old : Option Told) (item : Fed) (new : Option Told) (p : Place) → p.over ≡ false → Comes old (Some item) new → IsClear old p → IsNextItem (whole_of new) p item
+comes_next None item new p goes h here = subst (λ o. IsNextItem (whole_of o) p item) (sym h) tt
+comes_next (Some old) item new p goes h (ends, here) =
+    let c = came_first old item new p goes h here in
+    let at : IsAt c.now.whole p old.coming = subst (λ items. IsAt items p old.coming) (sym c.whole) here in
+    subst (λ o. IsNextItem (whole_of o) p item) (sym c.is) (old.coming, c.now.coming, at, c.first)
 
--- where the items ended, the entries are those of the source
-pub comes_told : (old : Option Told) (item : Fed) (new : Option Told) (p : Place) → Comes old (Some item) new → p.over ≡ false → IsClear new (after p item) → IsAsTold (whole_of new) (after p item)
-comes_told None item new p h goes here = subst (λ o. IsAsTold (whole_of o) (after p item)) (sym h) tt
-comes_told (Some old) item new p (now, is, whole, coming, last) goes here =
-    let leading : leads (after p item) now.coming ≡ leads at_root now.whole = at_leads now.whole (after p item) now.coming (subst (λ o. IsClear o (after p item)) is here) in
-    subst (λ o. IsAsTold (whole_of o) (after p item)) (sym is) (λ over. (
-    let none = last (only_end p item goes over) in
+-- if the items ended, the entries are those of the source
+pub comes_told : (old : Option Told) (item : Fed) (new : Option Told) (p : Place) → p.over ≡ false → Comes old (Some item) new → IsClear old p → IsClear new (after p item) → IsAsTold (whole_of new) (after p item)
+comes_told None item new p goes h was here = subst (λ o. IsAsTold (whole_of o) (after p item)) (sym h) tt
+comes_told (Some old) item new p goes h (ends, was) here =
+    let c = came_first old item new p goes h was in
+    let clear : IsClear (Some c.now) (after p item) = subst (λ o. IsClear o (after p item)) c.is here in
+    let leading : leads (after p item) c.now.coming ≡ leads at_root c.now.whole = at_leads c.now.whole (after p item) c.now.coming clear.1 in
+    subst (λ o. IsAsTold (whole_of o) (after p item)) (sym c.is) (λ over. (
+    let last : old.coming ≡ fed_end ∷ c.now.coming = subst (λ x. ComesFirst x old.coming c.now.coming) (only_end p item goes over) c.first in
+    let none : c.now.coming ≡ [] = subst EndsThere last (at_ends old.whole p old.coming was ends) in
     ap (λ (q : Place). q.entries) (ap (λ items. leads (after p item) items) (sym none) ∙ leading)))
 
 pub fresh_on : (told : Option Told) → IsUntouched told → IsClear told at_root
 fresh_on None h = tt
-fresh_on (Some told) h = ([], sym h, tt, refl)
+fresh_on (Some told) h = (h.1, subst (λ items. IsAt told.whole at_root items) (sym h.0) (at_first told.whole))
+
+-- an item that came, and comes once more, comes as before
+pub told_again : (old : Option Told) (item : Fed) (new : Option Told) (p : Place) → p.over ≡ false → IsWhole item → Comes old (Some item) new → IsClear old p → told_with new (Some item) ≡ old
+told_again None item new p goes is h here = ap (λ o. told_with o (Some item)) h
+told_again (Some old) item new p goes one h (ends, here) =
+    let c = came_first old item new p goes h here in
+    let coming = first_whole item old.coming c.now.coming one c.first in
+    ap (λ o. told_with o (Some item)) c.is ∙ (λ i. Some (record { whole = c.whole i; coming = sym coming i }))
+
+-- and it comes then
+pub comes_again : (told : Option Told) (item : Fed) → Comes (told_with told (Some item)) (Some item) told
+comes_again None item = refl
+comes_again (Some told) item = (told, refl, refl, inr (first_here item told.coming))
+
+pub told_none : (told : Option Told) → told_with told None ≡ told
+told_none None = refl
+told_none (Some told) = refl
+
+pub with_whole : (told : Option Told) (item : Option Fed) → whole_of (told_with told item) ≡ whole_of told
+with_whole None item = refl
+with_whole (Some told) None = refl
+with_whole (Some told) (Some item) = refl
+
+-- where all is to come once more
+pub rewound : (old new : Option Told) → Rewinds old new → whole_of new ≡ whole_of old
+rewound None new h = ap whole_of h
+rewound (Some old) new h = ap whole_of h
+
+pub rewound_held : (told : Option Told) (held : Option Fed) (new : Option Told) (p : Place) (rest : List ℕ) → Rewinds told new → HasCome (told_with told held) p rest → HasCome new at_root []
+rewound_held None held new p rest h come = subst (λ o. HasCome o at_root []) (sym h) tt
+rewound_held (Some told) None new p rest h (ends, come) = subst (λ o. HasCome o at_root []) (sym h) (ends, (told.whole, at_first told.whole, refl))
+rewound_held (Some told) (Some item) new p rest h (ends, come) = subst (λ o. HasCome o at_root []) (sym h) (ends, (told.whole, at_first told.whole, refl))
 
 pub no_bytes : (bytes : List ℕ) → length bytes ≡ 0 → bytes ≡ []
 no_bytes [] none = refl
@@ -189,9 +310,34 @@ some_bytes bytes some none = some (ap length none)
 
 -- ---- how much is left
 
-count_behind : (a b : List Fed) → count_in (a ++ b) ≡ count_in a + count_in b
-count_behind [] b = omega (arith)
-count_behind (item ∷ a) b = omega (arith, count_behind a b)
+count_rest : (rest : List ℕ) (later : List Fed) → count_in (rest_then rest later) ≤ 1 + length rest + count_in later
+count_rest [] later = omega (arith)
+count_rest (b ∷ rest) later = omega (arith)
+
+count_some : (part rest : List ℕ) (later : List Fed) → length part + count_in (rest_then rest later) ≤ count_in (fed_bytes (part ++ rest) ∷ later)
+count_some part rest later = omega (arith, count_rest rest later, length-append part rest)
+
+-- the bytes of an item
+abbrev length_of : Fed → ℕ
+length_of (fed_bytes bytes) = length bytes
+length_of item = 0
+
+-- the others are no more, and fewer by its bytes
+first_count : (item : Fed) (coming then : List Fed) → ComesFirst item coming then → length_of item + count_in then ≤ count_in coming
+first_count (fed_dir name) coming then first = omega (arith, ap count_in first)
+first_count (fed_file name) coming then first = omega (arith, ap count_in first)
+first_count (fed_bytes part) coming then (rest, later, is, left) = omega (arith, count_some part rest later, ap count_in is, ap count_in left)
+first_count fed_close coming then first = omega (arith, ap count_in first)
+first_count fed_end coming then first = omega (arith, ap count_in first)
+first_count fed_abandon coming then first = omega (arith, ap count_in first)
+
+come_count : (items coming then : List Fed) → ComeFirst items coming then → count_in then ≤ count_in coming
+come_count [] coming then is = omega (arith, ap count_in is)
+come_count (item ∷ items) coming then (mid, first, more) = omega (arith, first_count item coming mid first, come_count items mid then more)
+
+read_count : (bytes : List ℕ) (coming then : List Fed) → WasRead bytes coming then → length bytes + count_in then ≤ count_in coming
+read_count [] coming then is = omega (arith, ap count_in is)
+read_count (b ∷ bytes) coming then first = first_count (fed_bytes (b ∷ bytes)) coming then first
 
 pub count_one : (item : Fed) → 1 ≤ count_of item
 count_one (fed_dir name) = omega (arith)
@@ -201,19 +347,16 @@ count_one fed_close = omega (arith)
 count_one fed_end = omega (arith)
 count_one fed_abandon = omega (arith)
 
-at_count : (whole : List Fed) (p : Place) (coming : List Fed) → IsAt whole p coming → count_in coming ≤ count_in whole
-at_count whole p coming (before, is, taken, at) = omega (arith, ap count_in is, count_behind before coming)
-
-within_count : (whole : List Fed) (p : Place) (rest : List ℕ) (coming : List Fed) → IsWithin whole p rest coming → count_in coming + length rest ≤ count_in whole
-within_count whole p rest coming (q, part, at, may, is) =
-    let c = at_count whole q (fed_bytes (part ++ rest) ∷ coming) at in
-    omega (arith, c, length-append part rest)
+some_length : (bytes : List ℕ) → bytes ≢ [] → 1 ≤ length bytes
+some_length [] some = absurd (some refl)
+some_length (b ∷ bytes) some = omega (arith)
 
 -- at first
 pub less_first : (told : Option Told) (p : Place) (rest : List ℕ) → HasCome told p rest → IsLessBy 0 told rest
 less_first None p rest h = tt
-less_first (Some told) p rest (inl (none, at)) = omega (arith, at_count told.whole p told.coming at, ap length none)
-less_first (Some told) p rest (inr within) = omega (arith, within_count told.whole p rest told.coming within)
+less_first (Some told) p rest (ends, (here, at, read)) =
+    let less = come_count at.0 told.whole here at.1 in
+    omega (arith, less, read_count rest here told.coming read)
 
 -- a round more
 pub less_on : (n : ℕ) (old : Option Told) (waits : List ℕ) (new : Option Told) (rest : List ℕ) → Lessens old waits new rest → IsLessBy n old waits → IsLessBy (n + 1) new rest
@@ -222,7 +365,7 @@ less_on n (Some old) waits new rest (now, is, whole, less) few =
     subst (λ o. IsLessBy (n + 1) o rest) (sym is) (omega (arith, less, few, ap count_in whole))
 
 -- after all rounds
-pub less_endless : (n : ℕ) (told : Option Told) (rest : List ℕ) → 2 ^ 64 - 1 ≤ n → IsLessBy n told rest → IsEndless (whole_of told)
+pub less_endless : (n : ℕ) (told : Option Told) (rest : List ℕ) → 2 ^ 128 - 1 ≤ n → IsLessBy n told rest → IsEndless (whole_of told)
 less_endless n None rest many h = tt
 less_endless n (Some told) rest many h = omega (arith, many, h)
 
@@ -231,12 +374,17 @@ pub less_part : (told : Option Told) (rest : List ℕ) (n : ℕ) → n ≤ lengt
 less_part None rest n few some = refl
 less_part (Some told) rest n few some = (told, refl, refl, omega (arith, few, some, length-drop n rest))
 
--- an item came that is fed, where nothing waited
-pub less_item : (old : Option Told) (waits : List ℕ) (item : Fed) (new : Option Told) → Comes old (Some item) new → Lessens old waits new []
-less_item None waits item new h = h
-less_item (Some old) waits item new (now, is, whole, coming, last) = (now, is, whole, omega (arith, count_one item, ap count_in coming))
+-- an item came that is fed, and nothing waited
+pub less_item : (old : Option Told) (waits : List ℕ) (item : Fed) (new : Option Told) (p : Place) → p.over ≡ false → IsWhole item → Comes old (Some item) new → IsClear old p → Lessens old waits new []
+less_item None waits item new p goes one h here = h
+less_item (Some old) waits item new p goes one h (ends, here) =
+    let c = came_first old item new p goes h here in
+    let all = ap count_in (first_whole item old.coming c.now.coming one c.first) in
+    (c.now, c.is, c.whole, omega (arith, all, count_one item))
 
 -- bytes came that wait
-pub less_bytes : (old : Option Told) (waits : List ℕ) (bytes : List ℕ) (new : Option Told) → Comes old (Some (fed_bytes bytes)) new → Lessens old waits new bytes
-less_bytes None waits bytes new h = h
-less_bytes (Some old) waits bytes new (now, is, whole, coming, last) = (now, is, whole, omega (arith, ap count_in coming))
+pub less_bytes : (old : Option Told) (waits : List ℕ) (bytes : List ℕ) (new : Option Told) (p : Place) → p.over ≡ false → bytes ≢ [] → Comes old (Some (fed_bytes bytes)) new → IsClear old p → Lessens old waits new bytes
+less_bytes None waits bytes new p goes some h here = h
+less_bytes (Some old) waits bytes new p goes some h (ends, here) =
+    let c = came_first old (fed_bytes bytes) new p goes h here in
+    (c.now, c.is, c.whole, omega (arith, some_length bytes some, first_count (fed_bytes bytes) old.coming c.now.coming c.first))

@@ -37,12 +37,12 @@ asked_at task Allows (e ∷ es) token k n x say h (inr was) =
 -- ---- what was read and put, among more exchanges
 
 module _ (fs es : Trace) (on : (ask : Ask) (say : Say) → Exchanged fs ask say → Exchanged es ask say) where
-  given_on : (k : BlobKind) (n : Name) → IsGiven fs k n → IsGiven es k n
+  pub given_on : (k : BlobKind) (n : Name) → IsGiven fs k n → IsGiven es k n
   given_on k n h =
       let read = h.1 in
       (h.0, record { index = read.index; text = read.text; read = (on (Ask.Get Kind.Index read.index) (Say.Bytes read.text) read.read.0, read.read.1); says = read.says }, h.2, h.3)
 
-  indexed_on : (k : BlobKind) (n : Name) → IsIndexed fs k n → IsIndexed es k n
+  pub indexed_on : (k : BlobKind) (n : Name) → IsIndexed fs k n → IsIndexed es k n
   indexed_on k n h = record {
     index = h.index;
     text = h.text;

@@ -33,7 +33,7 @@ told_first (Some whole) = λ over. absurd (cc)
 
 pub way_first : (whole : Option (List Fed)) → IsOnTheWay whole at_root
 way_first None = tt
-way_first (Some whole) = (whole, inl ([], refl, tt, refl))
+way_first (Some whole) = (whole, ([], refl, tt, refl))
 
 -- what was fed so far is the source's
 pub right_at : (whole : Option (List Fed)) (gave : Bool) (fs : Trace) → AreFedRight whole gave fs → IsFedRight whole gave fs

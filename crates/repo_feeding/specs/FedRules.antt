@@ -1,5 +1,5 @@
 -- What a backup that feeds itself may ask for, and how it may end, as its exchanges show.
-use Rattle.std.specs.Prelude.{◌≡◌, ◌≢◌, ◌≤◌, ◌⊎◌, ◌++◌, ◌∷◌, [], ⊤, ℕ, true, false, List, length, Option, Some, None}
+use Rattle.std.specs.Prelude.{◌≡◌, ◌≢◌, ◌≤◌, ◌++◌, ◌∷◌, [], ⊤, true, false, List, length, Option, Some, None}
 use Rattle.repo_wire.specs.declared.messages.Ask.{Ask}
 use Rattle.repo_wire.specs.declared.messages.Say.{Say}
 use Rattle.repo_session.specs.Askers.{Asker}
@@ -13,7 +13,7 @@ use Rattle.repo_session.specs.declared.versions.Versions.{Versions}
 use Rattle.repo_backup.specs.Items.{Place, NobodyGaveUp, MayTake, place_of}
 use Rattle.repo_backup.specs.PieceRules.{PieceAllows, PieceConcludes, WantsInput}
 use Rattle.repo_backup.specs.PieceStates.{piece_task}
-use Rattle.repo_feeding.specs.Sources.{IsAt, IsWithin, spelled_in}
+use Rattle.repo_feeding.specs.Sources.{IsAt, spelled_in}
 use Rattle.repo_feeding.specs.Unfed.{unfed}
 
 -- where its source is known, the items that ended spell what all spell that the source was made to give
@@ -21,10 +21,10 @@ abbrev pub IsAsTold : Option (List Fed) → Place → Type 0
 IsAsTold None p = ⊤
 IsAsTold (Some whole) p = p.over ≡ true → p.entries ≡ spelled_in whole
 
--- where its source is known, the items so far lead where the first ones lead of those that it was made to give, behind which the last may be the first part of a piece
+-- if its source is known, the items so far lead where the first ones lead of those that it was made to give, its bytes in any parts
 abbrev pub IsOnTheWay : Option (List Fed) → Place → Type 0
 IsOnTheWay None p = ⊤
-IsOnTheWay (Some whole) p = (coming : List Fed) × (IsAt whole p coming ⊎ ((rest : List ℕ) × IsWithin whole p rest coming))
+IsOnTheWay (Some whole) p = (coming : List Fed) × IsAt whole p coming
 
 -- each of these items, the newest first, which were fed on an exchange after others, came where a backup that is fed may want input, before the end of its lock,
 -- and might be taken there

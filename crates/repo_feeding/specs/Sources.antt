@@ -1,5 +1,5 @@
 -- What comes from a source of items, and what is still to come.
-use Rattle.std.specs.Prelude.{◌≡◌, ◌⊎◌, ◌≤◌, ◌+◌, ◌++◌, ◌∷◌, [], ⊤, ℕ, List, length, take, string_bytes, Option, Some, None, Result, Ok, Err}
+use Rattle.std.specs.Prelude.{◌≡◌, ◌⊎◌, ◌≤◌, ◌+◌, ◌++◌, ◌∷◌, [], ⊤, ℕ, true, List, length, take, Option, Some, None, Result, Ok, Err}
 use Rattle.repo_tree.specs.declared.entries.Entry.{Entry}
 use Rattle.repo_session.specs.Feeds.{Fed, fed_dir, fed_file, fed_bytes, fed_close, fed_end}
 use Rattle.repo_backup.specs.Items.{Place, MayTake, at_root, after}
@@ -24,61 +24,93 @@ abbrev pub Fails : {E : Type 0} → (E → Type 0) → Result Found E → (E →
 Fails old (Ok found) new = IsSound old → IsSound new
 Fails old (Err error) new = IsSound old → new error
 
--- nothing of what it was made to give came so far, where that is known
+-- nothing is behind the end of these items
+abbrev pub EndsThere : List Fed → Type 0
+EndsThere [] = ⊤
+EndsThere (fed_end ∷ items) = items ≡ []
+EndsThere (item ∷ items) = EndsThere items
+
+-- nothing of what it was made to give came so far, where that is known, and nothing of that is behind its end
 abbrev pub IsUntouched : Option Told → Type 0
 IsUntouched None = ⊤
-IsUntouched (Some told) = told.coming ≡ told.whole
+IsUntouched (Some told) = (told.coming ≡ told.whole) × EndsThere told.whole
 
 -- nothing came so far, and it hasn't failed
 abbrev pub IsFresh : {E : Type 0} → Option Told → (E → Type 0) → Type 0
 IsFresh told failed = IsUntouched told × IsSound failed
 
--- the bytes that were found are in the room
+-- the bytes that were found are in the room, one at least
 abbrev pub FitsRoom : ℕ → Found → Type 0
-FitsRoom room (Found.Bytes count) = count ≤ room
+FitsRoom room (Found.Bytes count) = (1 ≤ count) × (count ≤ room)
 FitsRoom room found = ⊤
 
--- what was found, as an item: of bytes those at the front of the room
-abbrev pub fed_found : List ℕ → Found → Fed
-fed_found room (Found.Dir name) = fed_dir (string_bytes name)
-fed_found room (Found.File name) = fed_file (string_bytes name)
-fed_found room (Found.Bytes count) = fed_bytes (take count room)
-fed_found room Found.Close = fed_close
-fed_found room Found.End = fed_end
+-- what was found, as an item: a directory or a file of this name; of bytes those at the front of the room
+abbrev pub fed_found : List ℕ → List ℕ → Found → Fed
+fed_found name room Found.Dir = fed_dir name
+fed_found name room Found.File = fed_file name
+fed_found name room (Found.Bytes count) = fed_bytes (take count room)
+fed_found name room Found.Close = fed_close
+fed_found name room Found.End = fed_end
 
 -- the item that came, if one did
-abbrev pub came : {E : Type 0} → List ℕ → Result Found E → Option Fed
-came room (Ok found) = Some (fed_found room found)
-came room (Err error) = None
+abbrev pub came : {E : Type 0} → List ℕ → List ℕ → Result Found E → Option Fed
+came name room (Ok found) = Some (fed_found name room found)
+came name room (Err error) = None
 
--- what comes is the next of what was to come, and behind the end there is nothing; a source that fails stands as before
-abbrev pub Comes : Option Told → Option Fed → Option Told → Type 0
-Comes None item new = new ≡ None
-Comes (Some old) None new = new ≡ Some old
-Comes (Some old) (Some item) new = (now : Told) × (new ≡ Some now) × (now.whole ≡ old.whole) × (old.coming ≡ item ∷ now.coming) × (item ≡ fed_end → now.coming ≡ [])
+-- the rest of a piece of bytes, unless that is none, and then these
+abbrev pub rest_then : List ℕ → List Fed → List Fed
+rest_then [] later = later
+rest_then (b ∷ bytes) later = fed_bytes (b ∷ bytes) ∷ later
+
+-- the item comes first of some, and then the others; a part of a piece of bytes comes first, and then its rest
+abbrev pub ComesFirst : Fed → List Fed → List Fed → Type 0
+ComesFirst (fed_bytes part) coming then = (rest : List ℕ) × (later : List Fed) × (coming ≡ fed_bytes (part ++ rest) ∷ later) × (then ≡ rest_then rest later)
+ComesFirst item coming then = coming ≡ item ∷ then
 
 -- where some items more lead, the next one first
 abbrev pub leads : Place → List Fed → Place
 leads p [] = p
 leads p (item ∷ items) = leads (after p item) items
 
--- the item may be taken here; or it is a piece of no bytes, which is passed over
-abbrev pub IsTakenAt : Place → Fed → Type 0
-IsTakenAt p item = MayTake p item ⊎ (item ≡ fed_bytes [])
+-- all of it came, its end too
+abbrev pub IsSpent : Told → Type 0
+IsSpent told = (told.coming ≡ []) × ((leads at_root told.whole).over ≡ true)
 
--- each of these items, the next one first, may be taken where those before it lead, or is passed over
+-- what came was the first of these, and then come the others; a source that fails is as before
+abbrev pub ComesOf : Option Fed → List Fed → List Fed → Type 0
+ComesOf None coming then = then ≡ coming
+ComesOf (Some item) coming then = ComesFirst item coming then
+
+-- what comes is the first of what was to come; behind the end anything may come
+abbrev pub Comes : Option Told → Option Fed → Option Told → Type 0
+Comes None item new = new ≡ None
+Comes (Some old) item new = (now : Told) × (new ≡ Some now) × (now.whole ≡ old.whole) × (IsSpent old ⊎ ComesOf item old.coming now.coming)
+
+-- with an item that came, and comes once more
+abbrev pub told_with : Option Told → Option Fed → Option Told
+told_with None item = None
+told_with (Some told) None = Some told
+told_with (Some told) (Some item) = Some (record { whole = told.whole; coming = item ∷ told.coming })
+
+-- all that it was made to give is to come once more
+abbrev pub Rewinds : Option Told → Option Told → Type 0
+Rewinds None new = new ≡ None
+Rewinds (Some old) new = new ≡ Some (record { whole = old.whole; coming = old.whole })
+
+-- each of these items, the next one first, may be taken where those before it lead
 abbrev pub AreTakenFrom : Place → List Fed → Type 0
 AreTakenFrom p [] = ⊤
-AreTakenFrom p (item ∷ items) = IsTakenAt p item × AreTakenFrom (after p item) items
+AreTakenFrom p (item ∷ items) = MayTake p item × AreTakenFrom (after p item) items
 
--- some first items of those that a source was made to give, each of which may be taken where those before it lead, lead here, and these come behind them: so none is
+-- these items come first of some, one after another, and then the others
+abbrev pub ComeFirst : List Fed → List Fed → List Fed → Type 0
+ComeFirst [] coming then = coming ≡ then
+ComeFirst (item ∷ items) coming then = (mid : List Fed) × ComesFirst item coming mid × ComeFirst items mid then
+
+-- some first items of those that a source was made to give, its bytes in any parts, each of which may be taken where those before it lead, lead here, and these come then: so none is
 -- among the first that came out of order there
 abbrev pub IsAt : List Fed → Place → List Fed → Type 0
-IsAt whole p coming = (before : List Fed) × (whole ≡ before ++ coming) × AreTakenFrom at_root before × (leads at_root before ≡ p)
-
--- with a part of a piece of bytes behind them, which may be taken there unless it is none, they lead here; the rest of the piece comes next, and then these
-abbrev pub IsWithin : List Fed → Place → List ℕ → List Fed → Type 0
-IsWithin whole p rest coming = (q : Place) × (part : List ℕ) × IsAt whole q (fed_bytes (part ++ rest) ∷ coming) × IsTakenAt q (fed_bytes part) × (after q (fed_bytes part) ≡ p)
+IsAt whole p coming = (before : List Fed) × ComeFirst before whole coming × AreTakenFrom at_root before × (leads at_root before ≡ p)
 
 -- an item counts one, and each of its bytes one more
 abbrev pub count_of : Fed → ℕ

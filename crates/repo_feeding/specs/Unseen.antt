@@ -37,17 +37,17 @@ so_exchanged [] ask say h = h
 so_exchanged (e ∷ es) ask say (inl h) = inl h
 so_exchanged (e ∷ es) ask say (inr h) = inr (so_exchanged es ask say h)
 
-names_so : (k : Kind) (es : Trace) → names_in k (unfed es) ≡ names_in k es
+pub names_so : (k : Kind) (es : Trace) → names_in k (unfed es) ≡ names_in k es
 names_so k [] = refl
 names_so k (e ∷ es) = ap (λ ns. ns ++ page_names k e.ask e.say) (names_so k es)
 
-complete_so : (k : Kind) (es : Trace) → is_complete k (unfed es) ≡ is_complete k es
+pub complete_so : (k : Kind) (es : Trace) → is_complete k (unfed es) ≡ is_complete k es
 complete_so k [] = refl
 complete_so k (e ∷ es) = ap (λ b. cond (is_last_page k e.ask e.say) true b) (complete_so k es)
 
 -- ---- what was read
 
-rise_so : (k : Kind) (es : Trace) → Rise k es → Rise k (unfed es)
+pub rise_so : (k : Kind) (es : Trace) → Rise k es → Rise k (unfed es)
 rise_so k es h = record {
   ascend = subst (λ ns. NamesAscend None ns) (sym (names_so k es)) h.ascend;
   moves = λ after x. h.moves after (so_exchanged es (Ask.List k after) (Say.Names true []) x);

@@ -1,7 +1,7 @@
 //! The room into which a source reads bytes.
 
 ghost use Rattle.std.specs.Prelude.{◌≡◌, ◌≤◌, ◌↔◌, [], IsTrue, IfOk, IfErr, drop, length};
-ghost use Rattle.repo_feeding.specs.Sources.{Comes, Fails};
+ghost use Rattle.repo_feeding.specs.Sources.{Comes, Fails, whole_of};
 ghost use Rattle.repo_feeding.specs.inner.Rooms.{Fills};
 
 use crate::sources::{Found, Source};
@@ -61,10 +61,18 @@ impl Room {
         self.fed += count;
     }
 
+    /// Nothing waits any more.
+    pub fn clear(&mut self)
+        ensures { self.new ≡ [] }
+    {
+        self.fed = 0;
+        self.read = 0;
+    }
+
     /// Takes what comes next from a source; bytes are the room's then, and else it is empty.
     pub fn fill<S: Source>(&mut self, source: &mut S) -> Result<Found, S::Error>
-        ensures found { IfOk result (Fills (S.told source.old) self.new (S.told source.new)) }
-        ensures failed { IfErr result (λ error. (self.new ≡ []) × (S.told source.new ≡ S.told source.old)) }
+        ensures found { IfOk result (Fills (S.name source.new) (S.told source.old) self.new (S.told source.new)) }
+        ensures failed { IfErr result (λ error. (self.new ≡ []) × (whole_of (S.told source.new) ≡ whole_of (S.told source.old))) }
         ensures fails { Fails (S.failed source.old) result (S.failed source.new) }
     {
         self.fed = 0;

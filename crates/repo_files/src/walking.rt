@@ -87,6 +87,8 @@ pub struct FolderWalk<'a, R: Files> {
     levels: Vec<Level<R>>,
     file: Option<OpenedFile<R::File>>,
     skipped: Vec<Skipped>,
+    /// The name of the directory or file that was found last.
+    name: String,
     /// It told why no more come.
     failed: bool,
 }
@@ -102,6 +104,7 @@ impl<'a, R: Files + AllocGlobal + Clone + Drop> FolderWalk<'a, R> {
             levels: Vec::new(rt.alloc()),
             file: None,
             skipped: Vec::new(rt.alloc()),
+            name: String::new(rt.alloc()),
             failed: false,
         };
         let found = match look(rt, folder, Links::Followed) {
@@ -253,7 +256,8 @@ impl<'a, R: Files + AllocGlobal + Clone + Drop> FolderWalk<'a, R> {
                 found: Identity::of(&found),
             };
             self.open(&directory)?;
-            return Ok(Some(Found::Dir(name)));
+            self.name = name;
+            return Ok(Some(Found::Dir));
         }
         if !found.is_file() {
             self.leave_out(place)?;
@@ -267,7 +271,8 @@ impl<'a, R: Files + AllocGlobal + Clone + Drop> FolderWalk<'a, R> {
                     length,
                     read: 0,
                 });
-                Ok(Some(Found::File(name)))
+                self.name = name;
+                Ok(Some(Found::File))
             }
             Err(error) => Err(told(self.rt.alloc(), place.as_str(), &error)),
         }
@@ -337,13 +342,17 @@ impl<F: Read> OpenedFile<F> {
 }
 
 impl<R: Files + AllocGlobal + Clone + Drop> Source for FolderWalk<'_, R> {
-    ghost use Rattle.std.specs.Prelude.{◌≡◌, true, None};
+    ghost use Rattle.std.specs.Prelude.{◌≡◌, true, None, string_bytes};
 
     type Error = WalkError;
 
     ghost told = { λ _. None };
 
     ghost failed = { λ walk error. walk.failed ≡ true };
+
+    ghost rewinds = { ⊥ };
+
+    ghost name = { λ walk. string_bytes walk.name };
 
     fn next(&mut self, room: &mut [u8]) -> Result<Found, WalkError> {
         match self.find(room) {
@@ -353,5 +362,13 @@ impl<R: Files + AllocGlobal + Clone + Drop> Source for FolderWalk<'_, R> {
                 Err(error)
             }
         }
+    }
+
+    fn name(&self) -> &str {
+        self.name.as_str()
+    }
+
+    fn rewind(&mut self) -> bool {
+        false
     }
 }

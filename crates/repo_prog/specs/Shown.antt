@@ -10,7 +10,7 @@ use Rattle.repo_session.specs.Sessions.{ended_in}
 use Rattle.repo_session.specs.Traces.{Trace}
 use Rattle.repo_backup.specs.declared.piece_backups.PieceBackup.{PieceBackup}
 use Rattle.repo_feeding.specs.FedStates.{FitsFed, feeder}
-use Rattle.repo_feeding.specs.Sources.{Told}
+use Rattle.repo_feeding.specs.Sources.{Told, told_with}
 use Rattle.repo_feeding.specs.declared.reasons.GivenUp.{GivenUp}
 use Rattle.std.specs.Io.KnownBytes.{Appends}
 use Rattle.repo_prune.specs.declared.choices.Choice.{Choice}
@@ -76,10 +76,10 @@ clean_lines c = clean_line c.0 c.1 c.2 c.3
 abbrev pub ShowsStored : Option Outcome → Status → Option (List ℕ) → Option (List ℕ) → Type 0
 ShowsStored outcome status before after = Tells (λ (s : Stored). outcome ≡ Some (Outcome.Stored s.0 s.1 s.2)) stored_lines status before after
 
--- in the end a backup had stored a snapshot, with a source of which this is known: what it was made to give, and for what it failed
-abbrev pub HasStoredFrom : {E : Type 0} → Option Told → (E → Type 0) → Type 0
-HasStoredFrom {E} told failed =
-    (b : PieceBackup) × ((rest : List ℕ) × ((given_up : Option (GivenUp E)) × ((es : Trace) × FitsFed (feeder b told rest failed given_up) es × ((s : Stored) × (ended_in b.session ≡ Some (Outcome.Stored s.0 s.1 s.2))))))
+-- in the end a backup had stored a snapshot, with a source of which this is known: what it was made to give, for what it failed, and whether it may begin again. An item that came may wait
+abbrev pub HasStoredFrom : {E : Type 0} → Option Told → (E → Type 0) → Type 0 → Type 0
+HasStoredFrom {E} told failed rewinds =
+    (b : PieceBackup) × ((waits : Option Fed) × ((rest : List ℕ) × ((given_up : Option (GivenUp E)) × ((es : Trace) × FitsFed (feeder b (told_with told waits) rest failed rewinds given_up) es × ((s : Stored) × (ended_in b.session ≡ Some (Outcome.Stored s.0 s.1 s.2)))))))
 
 abbrev pub ShowsListed : Outcome → Status → Option (List ℕ) → Option (List ℕ) → Type 0
 ShowsListed outcome status before after = Tells (λ (rows : List (Name × Snapshot)). outcome ≡ Outcome.Listed rows) snapshot_lines status before after

@@ -192,8 +192,8 @@ pub fn backup_from<S: Source<Error = WalkError> + LeavesOut + Drop, D: Dial, O: 
     requires host { IsHost origin.host.now }
     requires fresh { IsFresh (S.told origin.source) (S.failed origin.source) }
     ensures obeyed { BackupObeyed caller.now origin.entry.host.now (whole_of (S.told origin.entry.source)) route.old.retry (D.connections route.old.dial) (D.connections route.new.dial) }
-    ensures whole { result ≡ Status.Done → (left : S) × HasStoredFrom (S.told left) (S.failed left) × (S.skipped left ≡ []) }
-    ensures flawed { result ≡ Status.Flawed → (left : S) × HasStoredFrom (S.told left) (S.failed left) × (S.skipped left ≢ []) }
+    ensures whole { result ≡ Status.Done → (left : S) × HasStoredFrom (S.told left) (S.failed left) S.rewinds × (S.skipped left ≡ []) }
+    ensures flawed { result ≡ Status.Flawed → (left : S) × HasStoredFrom (S.told left) (S.failed left) S.rewinds × (S.skipped left ≢ []) }
     ensures tells { TellsStored caller.now origin.entry.host.now (whole_of (S.told origin.entry.source)) route.old.retry (D.connections route.old.dial) (D.connections route.new.dial) (unflawed result) (O.contents console.old.output) (O.contents console.new.output) }
     ensures silent { result ≡ Status.Done → console.new.faults ≡ console.old.faults }
     ensures status { result ≢ Status.Usage }
