@@ -12,8 +12,8 @@ snapshot that was reported stored is there, unless a forget was asked to delete 
 restored are the same byte for byte. After a prune nothing that was forgotten takes room. Only clients that were cut off left locks, each its
 own. No token was given twice. The server holds no connection and no file, and no more memory than before.
 
-A campaign begins by printing its seed; without --seed it draws one. After 60 rounds it goes on with the next seed and a new store. At its end, also if it is interrupted, it prints what it did: what it
-counts has happened. The machine decides on time and order, so the same seed may find a fault in one run and miss it in the next. If a plan
+A campaign begins by printing its seed; without --seed it draws one. After 60 rounds it goes on with the next seed and a new store. At its end,
+also if it is interrupted, it prints what it did: what it counts has happened. The machine decides on time and order, so the same seed may find a fault in one run and miss it in the next. If a plan
 fails, the campaign looks for the smallest plan that still fails, and stores it; --plan plays it again.
 
 With --scripts it plays random scripts with `vault play`, and compares what is printed with the reference in scripts/cases. For some scripts it
@@ -64,14 +64,6 @@ def faults_of(plan, counts, rounds, is_told=False):
         counts.update(campaign.counts)
         campaign.ends()
         shutil.rmtree(campaign.top, ignore_errors=True)
-
-
-def drawn(plan, most, until):
-    """Rounds of a plan, until there were so many, or time is up."""
-    number = 0
-    while number != most and time.monotonic() < until:
-        yield drawn_round(plan, number)
-        number += 1
 
 
 def in_time(rounds, until):
@@ -125,7 +117,12 @@ def plans_of(seed, given):
         seed += 1
 
 
-def first_failing(plans, given, counts, kept):
+def kept_at(plan, given):
+    """Where a failing plan is stored."""
+    return Path(given.keep) / f"campaign-{plan.seed}.json"
+
+
+def first_failing(plans, given, counts):
     """Plays plans, until one fails, time is up, or there were enough rounds. The plan that fails, with what was played of it."""
     until = time.monotonic() + 60 * given.minutes
     for place, plan in enumerate(plans):
@@ -133,29 +130,26 @@ def first_failing(plans, given, counts, kept):
         if time.monotonic() >= until or left == 0:
             return None
         print(described(plan), flush=True)
-        rounds = plan.rounds or drawn(plan, min(ROUNDS, left) if given.rounds >= 0 else ROUNDS, until)
+        rounds = plan.rounds or in_time((drawn_round(plan, number) for number in range(min(ROUNDS, left) if left > 0 else ROUNDS)), until)
         faults, plan.rounds = faults_of(plan, counts, rounds, is_told=place == 0)
         if faults:
-            plan.stores(kept(plan))
-            print("\n".join([f"{kept(plan)}: play it again with --plan", *faults]), flush=True)
+            plan.stores(kept_at(plan, given))
+            print("\n".join([f"{kept_at(plan, given)}: play it again with --plan", *faults]), flush=True)
             return plan
     return None
 
 
 def plays(plans, given):
     """Plays plans; the exit status."""
-    def kept(plan):
-        return Path(given.keep) / f"campaign-{plan.seed}.json"
-
     counts, begun = Counter(), time.monotonic()
     try:
-        plan = first_failing(plans, given, counts, kept)
+        plan = first_failing(plans, given, counts)
     finally:
         print(counted(counts, begun), flush=True)
     if not plan:
         return 0
     plan = shrunk(plan, time.monotonic() + 60 * given.shrink)
-    plan.stores(kept(plan))
+    plan.stores(kept_at(plan, given))
     print("\n".join(shown(plan)))
     return 1
 

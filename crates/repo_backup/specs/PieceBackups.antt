@@ -41,7 +41,7 @@ PieceKnows j ask es = KnowsPieces j.catalog j.backing ask es
 abbrev pub PieceReads : PieceJob → Ask → Trace → Type 0
 PieceReads j ask es = KnowsPieceReading j.catalog j.backing ask es
 
--- it stands where it wants input, but for what the last reading can be taken back to
+-- its state is the one in which it wants input, except for what the last reading can be taken back to
 abbrev pub PieceRests : PieceJob → Trace → Type 0
 PieceRests j es = WantsPieces j.catalog j.backing es
 

@@ -46,7 +46,7 @@ held_of name None = None
 held_of name (Some (Found.Bytes count)) = None
 held_of name (Some found) = Some (fed_found name [] found)
 
--- what is to come to one: what waits, and then what its source is told to give
+-- what is to come to one: the item that waits, and then what its source was made to give
 abbrev pub told_to : {S E : Type 0} → (S → Option Told) → (S → List ℕ) → FedBackup S E → Option Told
 told_to told name b = told_with (told b.source) (held_of (name b.source) b.found)
 

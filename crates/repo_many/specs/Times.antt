@@ -3,7 +3,7 @@ use Rattle.std.specs.Prelude.{◌+◌, ◌-◌, ◌^◌, ◌&&◌, if◌then◌e
 use Rattle.repo_store.specs.declared.serving.ServeError.{ServeError}
 use Rattle.repo_many.specs.declared.progress.Progress.{Progress}
 
--- the greatest number of nanoseconds that is told apart, some 584 years
+-- the greatest number of nanoseconds that a time has, some 584 years
 abbrev pub most : ℕ
 most = 2 ^ 64 - 1
 

@@ -26,7 +26,7 @@ bare (heard (b ∷ bytes) ∷ ps) = heard (b ∷ bytes) ∷ bare ps
 bare (said [] ∷ ps) = bare ps
 bare (said (b ∷ bytes) ∷ ps) = said (b ∷ bytes) ∷ bare ps
 
--- a connection came from one state to another by just these passages, but for such of no bytes
+-- a connection came from one state to another by just these passages; passages of no bytes don't count
 abbrev pub IsWired : {C : Type 0} → (C → List ℕ → C → Type 0) → (C → List ℕ → C → Type 0) → C → List Passage → C → Type 0
 IsWired Hears Says came qs now = (ps : List Passage) × Passes Hears Says came ps now × (bare ps ≡ bare qs)
 

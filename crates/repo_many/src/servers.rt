@@ -285,8 +285,8 @@ impl<
 /// Whatever the connections bring, what was answered to all of them, in that order, is one run of the store
 /// machine, and what happened to each of them is a stay of its guest. There is a log of that in which they were
 /// served in turn; that each turn keeps it, and touches no guest but the one at its place, are clauses of the
-/// rounds and of the turns. No clause says which connections were taken, since a listener tells no contract what
-/// it did, nor that a place's socket stays that of its guest.
+/// rounds and of the turns. Each guest to which anything happened is a connection, over which
+/// just that went (`connected`). No clause says which connections were taken, since a listener tells no contract what it did.
 pub fn serve_many<
     R: Net + Clock + AllocGlobal,
     L: OpenListener + AsRawFd + Drop,
